@@ -1,0 +1,62 @@
+-- What the proofs of `octets` cite: one law for each return, over plain variables.
+use Prim.Native.Nat.{ℕ, _+_, _-_, _≤_, _<_}
+use mathlib.Core.Path.{_≡_, refl, sym, ap, _∙_}
+use mathlib.Core.Bool.{Bool, true, false, cond}
+use mathlib.Core.List.{List, _++_, append-nil}
+use native.Mathlib.Omega.{arith}
+use native.Mathlib.Nat.{add-sub-cancel-left}
+use lib.ListN.{length, take, drop, length-take, drop-of-length-le}
+use lib.Seq.{take-length, drop-drop}
+use borrow.Author.Needs.{needs}
+use borrow.Author.Tests.{le-leb, lt-leb}
+use Rattle.octets.specs.Octets.{placed, fitsAt, afterPut, sameOctets}
+use Rattle.octets.specs.Laws.{same-self, same-true}
+
+module _ (d : List ℕ) (at : ℕ) (p : List ℕ) where
+  no-room : length d < at + length p → fitsAt d at p ≡ false
+  no-room l = lt-leb (at + length p) (length d) l
+
+  -- the place is past the end, or too little is left behind it: nothing is written
+  pub past-refused : length d < at → false ≡ fitsAt d at p
+  past-refused l = sym (no-room (omega arith))
+
+  pub past-unchanged : length d < at → d ≡ afterPut d at p
+  past-unchanged l = rw (no-room (omega arith))
+
+  pub short-refused : at ≤ length d → length d - at < length p → false ≡ fitsAt d at p
+  short-refused l m = sym (no-room (omega arith))
+
+  pub short-unchanged : at ≤ length d → length d - at < length p → d ≡ afterPut d at p
+  short-unchanged l m = rw (no-room (omega arith))
+
+  -- it fits: what `copy` left of the part comes back between what stood before and behind it
+  pub fits-told : at ≤ length d → length p ≤ length d - at → true ≡ fitsAt d at p
+  fits-told l m = sym (le-leb (at + length p) (length d) (omega arith))
+
+  pub fits-written : (ys : List ℕ) → at ≤ length d → length p ≤ length d - at
+      → ys ≡ take (length p) p ++ drop (length p) (take (at + length p - at) (drop at d))
+      → take at d ++ (ys ++ drop (at + length p - at) (drop at d)) ≡ afterPut d at p
+  unfolding placed
+  fits-written ys l m e =
+      let none : length (take (length p) (drop at d)) ≤ length p = simp length-take (omega arith) in
+      rw (e, add-sub-cancel-left, take-length, drop-of-length-le (take (length p) (drop at d)) none, append-nil, drop-drop, le-leb (at + length p) (length d) (omega arith))
+
+-- `check::same` tells both ways, so its answer is the test
+pub same-told : (r : Bool) (a b : List ℕ) → (r ≡ true → a ≡ b) × (a ≡ b → r ≡ true) → r ≡ sameOctets a b
+same-told true a b h = rw (h .0 refl) (sym (same-self b))
+same-told false a b h = go (sameOctets a b) refl
+  where
+    go : (t : Bool) → sameOctets a b ≡ t → false ≡ t
+    go true e = h .1 (same-true a b e)
+    go false e = refl
+
+pub ruleset steps = (
+  needs,
+  past-refused,
+  past-unchanged,
+  short-refused,
+  short-unchanged,
+  fits-told,
+  fits-written,
+  same-told,
+)

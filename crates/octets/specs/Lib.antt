@@ -1,0 +1,4 @@
+pub mod Octets
+pub mod Tests
+pub mod Laws
+pub mod Joined

@@ -1,0 +1,50 @@
+// Octets: a 16-bit number as two of them, octets put into a lent slice, and two slices compared.
+ghost use mathlib.Core.Path.{_≡_};
+ghost use Rattle.octets.specs.Octets.{pairOf, numberOf, fitsAt, afterPut, sameOctets};
+
+// Two octets of a 16-bit number, the high one first, as they stand on the air.
+pub struct Pair(pub u8, pub u8);
+
+// The two octets of a number.
+pub fn pair_of(n: u16) -> Pair
+    ensures { λ r. ⌜ r ≡ pairOf n ⌝ }
+{
+    Pair((n / 256) as u8, (n % 256) as u8)
+}
+
+// An octet as a number of 16 bits.
+fn wide(x: u8) -> u16
+    ensures { λ r. ⌜ r ≡ x ⌝ }
+{
+    x as u16
+}
+
+// The number that two octets are.
+pub fn number_of(high: u8, low: u8) -> u16
+    ensures { λ r. ⌜ r ≡ numberOf high low ⌝ }
+{
+    wide(high) * 256 + wide(low)
+}
+
+// Puts src into dst from the place `at` on, and says whether it fits there; where it does not, dst stays as it was.
+pub fn put(src: &[u8], dst: &mut [u8], at: usize) -> bool
+    ensures { λ r. ⌜ r ≡ fitsAt (now (dst .entry)) at (now (src .entry)) ⌝ }
+    ensures { λ _. ⌜ now (dst .exit) ≡ afterPut (now (dst .entry)) at (now (src .entry)) ⌝ }
+{
+    if dst.len() < at {
+        return false;
+    }
+    if dst.len() - at < src.len() {
+        return false;
+    }
+    let end = at + src.len();
+    bytes::copy(src, &mut dst[at..end]);
+    true
+}
+
+// Whether two slices hold the same octets: as many, and the same at each place.
+pub fn same(a: &[u8], b: &[u8]) -> bool
+    ensures { λ r. ⌜ r ≡ sameOctets (now (a .entry)) (now (b .entry)) ⌝ }
+{
+    check::same(a, b)
+}
