@@ -1,0 +1,4 @@
+pub mod Reading
+pub mod Showing
+pub mod Building
+pub mod Summing

@@ -1,0 +1,224 @@
+-- What the proofs of `read` cite: one law for each return or call, over plain variables.
+use Prim.Native.Nat.{ℕ, zero, suc, _+_, _-_, _≤_, _<_}
+use mathlib.Core.Path.{_≡_, refl, sym, ap, _∙_}
+use mathlib.Core.Bool.{Bool, true, false, not, _&&_}
+use mathlib.Core.List.{List, [], _∷_, _++_}
+use native.Mathlib.Omega.{arith}
+use native.Mathlib.Nat.{add-zero}
+use lib.ListN.{length, getD, take, drop, length-take, length-drop, List·getD-eq-default}
+use lib.Seq.{drop-cons, getD-drop, take-add, drop-drop}
+use lib.Dec.{eqb, ltb, leb}
+use borrow.Author.Needs.{needs}
+use borrow.Author.Tests.{not-true, not-false, lt-ltb, le-ltb, ltb-false}
+use Rattle.octets.specs.Octets.{numberOf}
+use Rattle.packet.specs.declared.Kind.{Kind}
+use Rattle.packet.specs.declared.Kind.the-variants.{Command, Response}
+use Rattle.packet.specs.declared.Tar.{Tar}
+use Rattle.packet.specs.declared.Cntr.{Cntr}
+use Rattle.packet.specs.declared.Clear.{Clear}
+use Rattle.packet.specs.declared.Opaque.{Opaque}
+use Rattle.packet.specs.declared.PlainCommand.{PlainCommand}
+use Rattle.packet.specs.declared.PlainResponse.{PlainResponse}
+use Rattle.packet.specs.declared.CommandBody.the-variants as command
+use Rattle.packet.specs.declared.ResponseBody.the-variants as response
+use Rattle.packet.specs.declared.Refusal.{Refusal}
+use Rattle.packet.specs.declared.read.Judged.{Judged}
+use Rattle.packet.specs.declared.read.Judged.the-variants as judged
+use Rattle.packet.specs.Refusals.{Outcome, refused, gives, numberOf as refusalNumber, refuse_when_otherwise_}
+use Rattle.packet.specs.Packets.{before, least, chl, formedBy, wellFormed, cipheredCommand, fieldsOf, Parsed, plainParsed, cipheredParsed, measured, readable, parsing}
+use Rattle.packet.specs.Told.{tarOctets, clearOctets, counterOctets, commandFields, responseFields}
+use Rattle.packet.specs.Laws.{Formed, formed-facts, before-least, least-most}
+use Rattle.packet.specs.Within.{toldJudged}
+
+-- ---- well formed
+pub formed-told : (k : Kind) (size high low header n w l : ℕ) → n ≡ numberOf high low → w ≡ header → l ≡ least k
+    → (eqb (n + 2) size && leb l w && leb (w + 1) n) ≡ formedBy k size high low header
+formed-told k size high low header n w l e f g = rw (e, f, g)
+
+pub short-plain : (p : List ℕ) → length p ≤ 3 → false ≡ cipheredCommand p
+short-plain p l = rw (List·getD-eq-default p 0 l)
+
+pub short-unformed : (k : Kind) (p : List ℕ) → length p < 3 → false ≡ wellFormed k p
+short-unformed k p l = go (wellFormed k p) refl
+  where
+    go : (b : Bool) → wellFormed k p ≡ b → false ≡ b
+    go true e = let h : Formed k p = formed-facts k p e in absurd (omega arith)
+    go false e = refl
+
+-- ---- what every reading asks first
+module _ (k : Kind) (p : List ℕ) (w : Bool) (e : w ≡ wellFormed k p) where
+  pub unformed-refused : (o : Outcome ℕ) → not w ≡ true → refused 9 ≡ readable k p o
+  unformed-refused o t = rw (← e, not-true w t)
+
+  module _ (t : not w ≡ false) where
+    pub long-refused : (o : Outcome ℕ) → 2142 < length p → refused 12 ≡ readable k p o
+    long-refused o l = rw (← e, not-false w t, lt-ltb 2142 (length p) l)
+
+    pub formed-header : 3 ≤ length p
+    formed-header = let f : Formed k p = formed-facts k p (sym e ∙ not-false w t) in omega arith
+
+    pub readable-header : (r : ℕ) → r ≡ chl p → length p ≤ 2142 → gives r ≡ readable k p (gives (chl p))
+    readable-header r f l = rw (← e, not-false w t, le-ltb 2142 (length p) l, f)
+
+-- ---- fields
+-- n octets of l from the place i on, one by one
+unfoldable from : List ℕ → ℕ → ℕ → List ℕ
+from l i zero = []
+from l i (suc n) = getD l i 0 ∷ from l (suc i) n
+
+from-take : (l : List ℕ) (i n : ℕ) → i + n ≤ length l → from l i n ≡ take n (drop i l)
+unfolding from
+from-take l i zero h = refl
+from-take l i (suc n) h = rw (drop-cons l i 0 (omega arith), from-take l (suc i) n (omega arith))
+
+module _ (p : List ℕ) (at : ℕ) where
+  pub tar-at : at + 3 ≤ length p → getD p at 0 ∷ getD p (at + 1) 0 ∷ getD p (at + 2) 0 ∷ [] ≡ take 3 (drop at p)
+  unfolding from
+  tar-at l = simp (getD-drop, add-zero) at (from-take (drop at p) 0 3 (simp length-drop (omega arith)))
+
+  pub cntr-at : at + 5 ≤ length p
+      → getD p at 0 ∷ getD p (at + 1) 0 ∷ getD p (at + 2) 0 ∷ getD p (at + 3) 0 ∷ getD p (at + 4) 0 ∷ [] ≡ take 5 (drop at p)
+  unfolding from
+  cntr-at l = simp (getD-drop, add-zero) at (from-take (drop at p) 0 5 (simp length-drop (omega arith)))
+
+-- a run behind a run
+run-next : (p : List ℕ) (at a b : ℕ) → take a (drop at p) ++ take b (drop (at + a) p) ≡ take (a + b) (drop at p)
+run-next p at a b = rw (take-add a b (drop at p), drop-drop a at p)
+
+runs : (p : List ℕ) (at a b : ℕ) (x y : List ℕ) → x ≡ take a (drop at p) → y ≡ take b (drop (at + a) p) → x ++ y ≡ take (a + b) (drop at p)
+runs p at a b x y e f = rw (e, f) (run-next p at a b)
+
+pub clear-at : (p : List ℕ) (t : Tar) → 10 ≤ length p → tarOctets t ≡ take 3 (drop 7 p)
+    → getD p 3 0 ∷ getD p 4 0 ∷ getD p 5 0 ∷ getD p 6 0 ∷ tarOctets t ≡ take 7 (drop 3 p)
+unfolding from
+clear-at p t l e = rw (e, ← run-next p 3 4 3, ← from-take p 3 4 (omega arith))
+
+-- the counters, and one or two octets behind them
+pub command-counters : (p : List ℕ) (n : Cntr) → Formed Command p → counterOctets n [] ≡ take 5 (drop 10 p)
+    → counterOctets n (getD p 15 0 ∷ []) ≡ take 6 (drop 10 p)
+unfolding from
+command-counters p n l e = ap (λ (x : List ℕ). x ++ (getD p 15 0 ∷ [])) e ∙ rw (← run-next p 10 5 1, ← from-take p 15 1 (omega arith))
+
+pub response-counters : (p : List ℕ) (n : Cntr) → Formed Response p → counterOctets n [] ≡ take 5 (drop 6 p)
+    → counterOctets n (getD p 11 0 ∷ getD p 12 0 ∷ []) ≡ take 7 (drop 6 p)
+unfolding from
+response-counters p n l e =
+    ap (λ (x : List ℕ). x ++ (getD p 11 0 ∷ getD p 12 0 ∷ [])) e ∙ rw (← run-next p 6 5 2, ← from-take p 11 2 (omega arith))
+
+-- the lengths of a plain body's parts, and of the opaque octets
+module _ (k : Kind) (p : List ℕ) (f : Formed k p) where
+  plain-measured : (x y : List ℕ) (c d : ℕ) → x ++ y ≡ take (least k) (drop 3 p) → c ≡ chl p - least k → d ≡ length p - (chl p + 3)
+      → plainParsed (x ++ y) c d ≡ measured (fieldsOf k false p)
+  plain-measured x y c d e g h =
+      let m : length (take (chl p - least k) (drop (least k) (drop 3 p))) ≡ c = simp (length-take, length-drop) (omega arith) in
+      let n : length (drop (chl p) (drop 3 p)) ≡ d = simp length-drop (omega arith) in rw (e, m, n)
+
+  opaque-measured : (x : List ℕ) (h o : ℕ) → x ≡ take (before k) (drop 3 p) → h ≡ chl p → o ≡ length p - (before k + 3)
+      → cipheredParsed x h o ≡ measured (fieldsOf k true p)
+  opaque-measured x h o e g i =
+      let n : length (drop (before k) (drop 3 p)) ≡ o = simp length-drop (omega arith) in rw (e, g, n)
+
+module _ (p : List ℕ) (f : Formed Command p) (x : Clear) (e : clearOctets x ≡ take 7 (drop 3 p)) (c : Bool) (s : c ≡ cipheredCommand p) where
+  pub command-opaque : (b : Opaque) → c ≡ true → (b .header ≡ chl p) × (b .octets ≡ length p - 10)
+      → commandFields x (command.Ciphered b) ≡ measured (fieldsOf Command (cipheredCommand p) p)
+  command-opaque b t h = rw (← s, t) (opaque-measured Command p f (clearOctets x) (b .header) (b .octets) e (h .0) (h .1))
+
+  pub command-plain : (b : PlainCommand) (h : ℕ) → h ≡ chl p → c ≡ false
+      → (counterOctets (b .cntr) (b .pcntr ∷ []) ≡ take 6 (drop 10 p)) × ((b .check ≡ h - 13) × (b .data ≡ length p - (h + 3)))
+      → commandFields x (command.Plain b) ≡ measured (fieldsOf Command (cipheredCommand p) p)
+  command-plain b h g t i =
+      rw (← s, t)
+      (plain-measured Command p f (clearOctets x) (counterOctets (b .cntr) (b .pcntr ∷ [])) (b .check) (b .data)
+      (runs p 3 7 6 (clearOctets x) (counterOctets (b .cntr) (b .pcntr ∷ [])) e (i .0)) (rw (← g) (i .1 .0)) (rw (← g) (i .1 .1)))
+
+module _ (p : List ℕ) (f : Formed Response p) (x : Tar) (e : tarOctets x ≡ take 3 (drop 3 p)) (c : Bool) where
+  pub response-opaque : (b : Opaque) → c ≡ true → (b .header ≡ chl p) × (b .octets ≡ length p - 6)
+      → responseFields x (response.Ciphered b) ≡ measured (fieldsOf Response c p)
+  response-opaque b t h = rw t (opaque-measured Response p f (tarOctets x) (b .header) (b .octets) e (h .0) (h .1))
+
+  pub response-plain : (b : PlainResponse) (h : ℕ) → h ≡ chl p → c ≡ false
+      → (counterOctets (b .cntr) (b .pcntr ∷ b .status ∷ []) ≡ take 7 (drop 6 p)) × ((b .check ≡ h - 10) × (b .data ≡ length p - (h + 3)))
+      → responseFields x (response.Plain b) ≡ measured (fieldsOf Response c p)
+  response-plain b h g t i =
+      rw t
+      (plain-measured Response p f (tarOctets x) (counterOctets (b .cntr) (b .pcntr ∷ b .status ∷ [])) (b .check) (b .data)
+      (runs p 3 3 7 (tarOctets x) (counterOctets (b .cntr) (b .pcntr ∷ b .status ∷ [])) e (i .0)) (rw (← g) (i .1 .0)) (rw (← g) (i .1 .1)))
+
+-- ---- parsing
+abbrev pub andThen : {A : Type 0} → Outcome ℕ → Outcome A → Outcome A
+andThen (refused n) o = refused n
+andThen (gives h) o = o
+
+pub readable-then : {A : Type 0} (k : Kind) (p : List ℕ) (n : ℕ) (o : Outcome A) → readable k p o ≡ andThen (readable k p (gives n)) o
+readable-then k p n o = go (wellFormed k p) (ltb 2142 (length p))
+  where
+    go : (w l : Bool) → (refuse 9 when not w otherwise refuse 12 when l otherwise o) ≡ andThen (refuse 9 when not w otherwise refuse 12 when l otherwise gives n) o
+    go true true = refl
+    go true false = refl
+    go false l = refl
+
+-- what a packet that can be read is
+readable-gives : (k : Kind) (p : List ℕ) (n h : ℕ) → gives h ≡ readable k p (gives n) → (wellFormed k p ≡ true) × (length p ≤ 2142) × (h ≡ n)
+readable-gives k p n h e = go (wellFormed k p) (ltb 2142 (length p)) refl refl e
+  where
+    go : (w l : Bool) → wellFormed k p ≡ w → ltb 2142 (length p) ≡ l → gives h ≡ (refuse 9 when not w otherwise refuse 12 when l otherwise gives n)
+        → (wellFormed k p ≡ true) × (length p ≤ 2142) × (h ≡ n)
+    go true true a b e = let z : _≡_ {A = ℕ} 0 1 = cc in absurd (omega arith)
+    go true false a b e = (a, ltb-false 2142 (length p) b, cc)
+    go false l a b e = let z : _≡_ {A = ℕ} 0 1 = cc in absurd (omega arith)
+
+module _ (k : Kind) (p : List ℕ) (j : Judged) (e : toldJudged j ≡ readable k p (gives (chl p))) where
+  module _ (h : ℕ) (t : j ≡ judged.Readable h) where
+    facts : (wellFormed k p ≡ true) × (length p ≤ 2142) × (h ≡ chl p)
+    facts = readable-gives k p (chl p) h (sym (ap toldJudged t) ∙ e)
+
+    pub judged-formed : Formed k p
+    judged-formed = formed-facts k p (facts .0)
+
+    pub judged-header : h ≡ chl p
+    judged-header = facts .2
+
+    pub judged-size : length p ≤ 2142
+    judged-size = facts .1
+
+    pub judged-readable : {A : Type 0} (o : Outcome A) → o ≡ readable k p o
+    judged-readable o = sym (rw (readable-then k p (chl p) o, ← e, t))
+
+    pub parsed-fields : (c : Bool) (x : Parsed) → x ≡ measured (fieldsOf k c p) → gives x ≡ parsing k c p
+    unfolding parsing
+    parsed-fields c x g = rw (← g) (judged-readable (gives x))
+
+  module _ (r : Refusal) (t : j ≡ judged.Refused r) where
+    pub judged-refused : {A : Type 0} (o : Outcome A) → refused (refusalNumber r) ≡ readable k p o
+    judged-refused o = rw (readable-then k p (chl p) o, ← e, t)
+
+    pub parsed-refused : (c : Bool) → refused (refusalNumber r) ≡ parsing k c p
+    unfolding parsing
+    parsed-refused c = judged-refused (gives (measured (fieldsOf k c p)))
+
+pub ruleset steps = (
+  needs,
+  before-least,
+  least-most,
+  formed-told,
+  short-plain,
+  short-unformed,
+  unformed-refused,
+  long-refused,
+  formed-header,
+  readable-header,
+  tar-at,
+  cntr-at,
+  clear-at,
+  command-counters,
+  response-counters,
+  command-opaque,
+  command-plain,
+  response-opaque,
+  response-plain,
+  judged-formed,
+  judged-header,
+  judged-size,
+  parsed-fields,
+  parsed-refused,
+)

@@ -1,0 +1,197 @@
+-- Laws of the rules for packets: what the lengths of a well-formed packet say, and the two round trips.
+use Prim.Native.Nat.{ℕ, _+_, _-_, _/_, _%_, _≤_, _<_}
+use mathlib.Core.Path.{_≡_, refl, sym, ap}
+use mathlib.Core.Bool.{Bool, true, false, _&&_, _||_}
+use mathlib.Core.List.{List, [], _∷_, _++_}
+use native.Mathlib.Omega.{arith}
+use native.Mathlib.Nat.{add-sub-cancel-left}
+use lib.ListN.{length, getD, take, drop, length-append, length-take, length-drop, take-append-drop}
+use lib.Seq.{take-at, drop-at, take-append-seam, drop-append-seam, drop-append-add, drop-drop, getD-drop}
+use lib.Dec.{eqb, ltb, leb}
+use borrow.Author.Tests.{eqb-true, eq-eqb, leb-true, le-leb, ltb-false, le-ltb}
+use Rattle.octets.specs.Tests.{both, neither}
+use Rattle.octets.specs.Laws.{number-of-pair}
+use Rattle.packet.specs.declared.Kind.{Kind}
+use Rattle.packet.specs.declared.Kind.the-variants.{Command, Response}
+use Rattle.packet.specs.Refusals.{Outcome, gives, refuse_when_otherwise_}
+use Rattle.packet.specs.Packets.{before, least, cpl, chl, wellFormed, Fields, plain, ciphered, fieldsBehind, fieldsOf, cipherBit, cipheredCommand, measured, readable, parsing, shown, securedOf, checkOf, opaqueOf, shownData, shownCheck, shownOpaque, headerLength, behind, packetFrom, packetOf, isCiphered, differ, againstSpi, misfit, building}
+
+-- ---- the layout
+-- something stands before CNTR; CNTR and PCNTR lie before the check field; what lies there is little
+pub before-some : (k : Kind) → 1 ≤ before k
+before-some Command = omega arith
+before-some Response = omega arith
+
+pub before-least : (k : Kind) → before k + 6 ≤ least k
+before-least Command = omega arith
+before-least Response = omega arith
+
+pub least-most : (k : Kind) → least k ≤ 13
+least-most Command = omega arith
+least-most Response = omega arith
+
+-- ---- well formed
+-- what a well-formed packet's lengths are: CPL counts all but itself, the header has room for its fixed fields, and lies within the packet
+pub record Formed (k : Kind) (p : List ℕ) : Type 0 where
+  pub whole : cpl p + 2 ≡ length p
+  pub room : least k ≤ chl p
+  pub inside : chl p + 3 ≤ length p
+
+pub formed-facts : (k : Kind) (p : List ℕ) → wellFormed k p ≡ true → Formed k p
+formed-facts k p e =
+    let (f, h) = both (eqb (cpl p + 2) (length p) && leb (least k) (chl p)) (leb (chl p + 1) (cpl p)) e in
+    let (w, r) = both (eqb (cpl p + 2) (length p)) (leb (least k) (chl p)) f in
+    let w′ = eqb-true (cpl p + 2) (length p) w in
+    let r′ = leb-true (least k) (chl p) r in
+    let h′ = leb-true (chl p + 1) (cpl p) h in record { whole = w′; room = r′; inside = omega arith }
+
+-- a well-formed packet that is not too long is refused nothing in reading
+pub readable-formed : {A : Type 0} (k : Kind) (p : List ℕ) (o : Outcome A) → wellFormed k p ≡ true → length p ≤ 2142 → readable k p o ≡ o
+readable-formed k p o w l = rw (w, le-ltb 2142 (length p) l)
+
+-- ---- building, then reading
+-- the fields before the check field, or those in the clear, are as many as the kind has
+abbrev pub RightLength : Kind → Fields → Type 0
+RightLength k (plain f c d) = length f ≡ least k
+RightLength k (ciphered f h o) = length f ≡ before k
+
+-- what was built was refused nothing
+record Built (k : Kind) (x : Fields) (p : List ℕ) : Type 0 where
+  agrees : againstSpi k x ≡ false
+  fits : misfit k x ≡ false
+  short : length p ≤ 2142
+  is : p ≡ packetFrom (headerLength k x) (behind x)
+
+built-is : (k : Kind) (x : Fields) (p : List ℕ) → building k x ≡ gives p → Built k x p
+unfolding building packetOf
+built-is k x p e = go (againstSpi k x) (misfit k x) (ltb 2142 (length (packetOf k x))) refl refl refl e
+  where
+    go : (a m l : Bool) → againstSpi k x ≡ a → misfit k x ≡ m → ltb 2142 (length (packetFrom (headerLength k x) (behind x))) ≡ l
+        → (refuse 10 when a otherwise refuse 11 when m otherwise refuse 12 when l otherwise gives (packetFrom (headerLength k x) (behind x))) ≡ gives p
+        → Built k x p
+    go true m l i j n e = let z : _≡_ {A = ℕ} 0 1 = cc in absurd (omega arith)
+    go false true l i j n e = let z : _≡_ {A = ℕ} 0 1 = cc in absurd (omega arith)
+    go false false true i j n e = let z : _≡_ {A = ℕ} 0 1 = cc in absurd (omega arith)
+    go false false false i j n e =
+        let s : packetFrom (headerLength k x) (behind x) ≡ p = cc in
+        let m = ltb-false 2142 (length (packetFrom (headerLength k x) (behind x))) n in
+        record { agrees = i; fits = j; short = omega (arith, m, ap length s); is = sym s }
+
+-- the header length has room for the fixed fields and lies within what stands behind the lengths
+header-right : (k : Kind) (x : Fields) → RightLength k x → misfit k x ≡ false → (least k ≤ headerLength k x) × (headerLength k x ≤ length (behind x))
+header-right k (plain f c d) r m = (omega arith, simp length-append (omega arith))
+header-right k (ciphered f h o) r m =
+    let (u, v) = neither (ltb h (least k) || ltb 255 h) (ltb (length o) (h - before k)) m in
+    let l : least k ≤ h = ltb-false h (least k) (neither (ltb h (least k)) (ltb 255 h) u .0) in
+    let n : h - before k ≤ length o = ltb-false (length o) (h - before k) v in (l, simp length-append (omega arith))
+
+from-formed : (k : Kind) (h : ℕ) (o : List ℕ) → least k ≤ h → h ≤ length o → wellFormed k (packetFrom h o) ≡ true
+from-formed k h o l m =
+    let n : cpl (packetFrom h o) ≡ 1 + length o = number-of-pair (1 + length o) in
+    rw (n, eq-eqb (1 + length o + 2) (length (packetFrom h o)) (omega arith), le-leb (least k) h l, le-leb (h + 1) (1 + length o) (omega arith))
+
+-- what building gives is well formed and no longer than a packet may be
+pub built-formed : (k : Kind) (x : Fields) (p : List ℕ) → building k x ≡ gives p → RightLength k x → (wellFormed k p ≡ true) × (length p ≤ 2142)
+built-formed k x p e r =
+    let b = built-is k x p e in
+    let h = header-right k x r (b .fits) in (rw (b .is) (from-formed k (headerLength k x) (behind x) (h .0) (h .1)), b .short)
+
+behind-fields : (k : Kind) (x : Fields) → RightLength k x → fieldsBehind k (isCiphered x) (headerLength k x) (behind x) ≡ x
+behind-fields k (plain f c d) r =
+    rw (← r, take-append-seam f (c ++ d), drop-append-seam f (c ++ d), add-sub-cancel-left, take-append-seam c d, drop-append-add f (c ++ d) (length c), drop-append-seam c d)
+behind-fields k (ciphered f h o) r = rw (take-at f o (before k) r, drop-at f o (before k) r)
+
+-- and reading it gives the same fields
+pub built-fields : (k : Kind) (x : Fields) (p : List ℕ) → building k x ≡ gives p → RightLength k x → fieldsOf k (isCiphered x) p ≡ x
+built-fields k x p e r = let b = built-is k x p e in rw (b .is) (behind-fields k x r)
+
+differ-none : (a b : Bool) → differ a b ≡ false → a ≡ b
+differ-none true true e = refl
+differ-none true false e = e
+differ-none false b e = sym e
+
+-- a command says itself which body it has
+pub built-cipher : (x : Fields) (p : List ℕ) → building Command x ≡ gives p → cipheredCommand p ≡ isCiphered x
+built-cipher x p e =
+    let b = built-is Command x p e in rw (b .is) (differ-none (cipherBit (getD (behind x) 0 0)) (isCiphered x) (b .agrees))
+
+-- so parsing answers with these fields, and the parts shown are those given
+module _ (k : Kind) (x : Fields) (p : List ℕ) (e : building k x ≡ gives p) (r : RightLength k x) where
+  read-back : {A : Type 0} (f : Fields → A) → readable k p (gives (f (fieldsOf k (isCiphered x) p))) ≡ gives (f x)
+  read-back f =
+      let w = built-formed k x p e r in
+      rw (built-fields k x p e r) (readable-formed k p (gives (f x)) (w .0) (w .1))
+
+  pub built-parsed : parsing k (isCiphered x) p ≡ gives (measured x)
+  unfolding parsing
+  built-parsed = read-back measured
+
+  pub built-data : shownData k (isCiphered x) p ≡ securedOf x
+  unfolding shownData
+  built-data = ap shown (read-back securedOf)
+
+  pub built-check : shownCheck k (isCiphered x) p ≡ checkOf x
+  unfolding shownCheck
+  built-check = ap shown (read-back checkOf)
+
+  pub built-opaque : shownOpaque k (isCiphered x) p ≡ opaqueOf x
+  unfolding shownOpaque
+  built-opaque = ap shown (read-back opaqueOf)
+
+-- ---- reading, then building
+differ-self : (a : Bool) → differ a a ≡ false
+differ-self true = refl
+differ-self false = refl
+
+said : (k : Kind) (c : Bool) (h : ℕ) (o : List ℕ) → isCiphered (fieldsBehind k c h o) ≡ c
+said k true h o = refl
+said k false h o = refl
+
+behind-again : (k : Kind) (c : Bool) (h : ℕ) (o : List ℕ) → least k ≤ h → behind (fieldsBehind k c h o) ≡ o
+behind-again k true h o l = take-append-drop (before k) o
+behind-again k false h o l =
+    let n : least k + (h - least k) ≡ h = omega arith in
+    let s : drop h o ≡ drop (h - least k) (drop (least k) o) = sym (rw n at (drop-drop (h - least k) (least k) o)) in
+    rw (s, take-append-drop (h - least k) (drop (least k) o)) (take-append-drop (least k) o)
+
+header-again : (k : Kind) (c : Bool) (h : ℕ) (o : List ℕ) → least k ≤ h → h ≤ length o → headerLength k (fieldsBehind k c h o) ≡ h
+header-again k true h o l m = refl
+header-again k false h o l m = simp (length-take, length-drop) (omega arith)
+
+misfit-again : (k : Kind) (c : Bool) (h : ℕ) (o : List ℕ) → least k ≤ h → h ≤ 255 → h ≤ length o → misfit k (fieldsBehind k c h o) ≡ false
+misfit-again k true h o l b m =
+    rw (le-ltb h (least k) l, le-ltb 255 h b, length-drop, le-ltb (length o - before k) (h - before k) (omega arith))
+misfit-again k false h o l b m =
+    le-ltb (255 - least k) (length (take (h - least k) (drop (least k) o))) (simp (length-take, length-drop) (omega arith))
+
+three-more : (p : List ℕ) → 3 ≤ length p → getD p 0 0 ∷ getD p 1 0 ∷ getD p 2 0 ∷ drop 3 p ≡ p
+three-more [] l = absurd (omega arith)
+three-more (a ∷ []) l = absurd (omega arith)
+three-more (a ∷ b ∷ []) l = absurd (omega arith)
+three-more (a ∷ b ∷ c ∷ p) l = refl
+
+packet-again : (k : Kind) (p : List ℕ) → Formed k p → getD p 1 0 < 256 → packetFrom (chl p) (drop 3 p) ≡ p
+packet-again k p f l =
+    let n : 1 + length (drop 3 p) ≡ cpl p = rw length-drop (omega arith) in
+    let u : cpl p / 256 ≡ getD p 0 0 = omega arith in
+    let v : cpl p % 256 ≡ getD p 1 0 = omega arith in rw (n, u, v) (three-more p (omega arith))
+
+against-again : (k : Kind) (c : Bool) (p : List ℕ) → least k ≤ chl p → (k ≡ Command → c ≡ cipheredCommand p) → againstSpi k (fieldsOf k c p) ≡ false
+against-again Command c p l s =
+    rw (said Command c (chl p) (drop 3 p), behind-again Command c (chl p) (drop 3 p) l, getD-drop 3 p 0 0, s refl) (differ-self (cipheredCommand p))
+against-again Response c p l s = refl
+
+sized-again : (q p : List ℕ) → q ≡ p → length p ≤ 2142 → (refuse 12 when ltb 2142 (length q) otherwise gives q) ≡ gives p
+sized-again q p e l = rw (e, le-ltb 2142 (length p) l)
+
+-- reading a well-formed packet and building from its fields gives the packet, octet for octet
+pub read-built : (k : Kind) (c : Bool) (p : List ℕ) → wellFormed k p ≡ true → length p ≤ 2142 → ((i : ℕ) → getD p i 0 < 256)
+    → (k ≡ Command → c ≡ cipheredCommand p) → building k (fieldsOf k c p) ≡ gives p
+unfolding building packetOf
+read-built k c p w l o s =
+    let f = formed-facts k p w in
+    let m : chl p ≤ length (drop 3 p) = rw length-drop (omega arith) in
+    let b : chl p ≤ 255 = omega (arith, o 2) in
+    let q : packetOf k (fieldsOf k c p) ≡ p =
+    rw (header-again k c (chl p) (drop 3 p) (f .room) m, behind-again k c (chl p) (drop 3 p) (f .room)) (packet-again k p f (o 1)) in
+    rw (against-again k c p (f .room) s, misfit-again k c (chl p) (drop 3 p) (f .room) b m) (sized-again (packetOf k (fieldsOf k c p)) p q l)

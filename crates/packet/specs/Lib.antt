@@ -1,0 +1,5 @@
+pub mod Refusals
+pub mod Packets
+pub mod Told
+pub mod Laws
+pub mod Within

@@ -1,0 +1,56 @@
+-- What the answers of parsing say, in the words of the paper: the fields in the packet's order.
+use Prim.Native.Nat.{ℕ}
+use mathlib.Core.List.{List, [], _∷_, _++_}
+use Rattle.packet.specs.declared.Tar.{Tar}
+use Rattle.packet.specs.declared.Cntr.{Cntr}
+use Rattle.packet.specs.declared.Clear.{Clear}
+use Rattle.packet.specs.declared.Opaque.{Opaque}
+use Rattle.packet.specs.declared.PlainCommand.{PlainCommand}
+use Rattle.packet.specs.declared.PlainResponse.{PlainResponse}
+use Rattle.packet.specs.declared.CommandBody.{CommandBody}
+use Rattle.packet.specs.declared.CommandBody.the-variants as command
+use Rattle.packet.specs.declared.ResponseBody.{ResponseBody}
+use Rattle.packet.specs.declared.ResponseBody.the-variants as response
+use Rattle.packet.specs.declared.Command.{Command}
+use Rattle.packet.specs.declared.Response.{Response}
+use Rattle.packet.specs.declared.ParsedCommand.{ParsedCommand}
+use Rattle.packet.specs.declared.ParsedCommand.the-variants as parsedCommand
+use Rattle.packet.specs.declared.ParsedResponse.{ParsedResponse}
+use Rattle.packet.specs.declared.ParsedResponse.the-variants as parsedResponse
+use Rattle.packet.specs.Refusals.{Outcome, refused, gives, numberOf}
+use Rattle.packet.specs.Packets.{Parsed, plainParsed, cipheredParsed}
+
+-- "TAR and CNTR pass as three and five octets."
+abbrev pub tarOctets : Tar → List ℕ
+tarOctets t = t .0 ∷ t .1 ∷ t .2 ∷ []
+
+-- SPI, KIc, KID, TAR
+abbrev pub clearOctets : Clear → List ℕ
+clearOctets x = x .spi .0 ∷ x .spi .1 ∷ x .kic ∷ x .kid ∷ tarOctets (x .tar)
+
+-- CNTR and what stands behind it up to the check field: PCNTR, and in a response the status
+abbrev pub counterOctets : Cntr → List ℕ → List ℕ
+counterOctets n l = n .0 ∷ n .1 ∷ n .2 ∷ n .3 ∷ n .4 ∷ l
+
+-- a plain command's fields before the check field, and a plain response's
+abbrev pub commandFixed : Clear → Cntr → ℕ → List ℕ
+commandFixed x n pcntr = clearOctets x ++ counterOctets n (pcntr ∷ [])
+
+abbrev pub responseFixed : Tar → Cntr → ℕ → ℕ → List ℕ
+responseFixed t n pcntr status = tarOctets t ++ counterOctets n (pcntr ∷ status ∷ [])
+
+abbrev pub commandFields : Clear → CommandBody → Parsed
+commandFields x (command.Plain b) = plainParsed (commandFixed x (b .cntr) (b .pcntr)) (b .check) (b .data)
+commandFields x (command.Ciphered b) = cipheredParsed (clearOctets x) (b .header) (b .octets)
+
+abbrev pub responseFields : Tar → ResponseBody → Parsed
+responseFields t (response.Plain b) = plainParsed (responseFixed t (b .cntr) (b .pcntr) (b .status)) (b .check) (b .data)
+responseFields t (response.Ciphered b) = cipheredParsed (tarOctets t) (b .header) (b .octets)
+
+abbrev pub toldCommand : ParsedCommand → Outcome Parsed
+toldCommand (parsedCommand.Fields c) = gives (commandFields (c .clear) (c .body))
+toldCommand (parsedCommand.Refused r) = refused (numberOf r)
+
+abbrev pub toldResponse : ParsedResponse → Outcome Parsed
+toldResponse (parsedResponse.Fields c) = gives (responseFields (c .tar) (c .body))
+toldResponse (parsedResponse.Refused r) = refused (numberOf r)

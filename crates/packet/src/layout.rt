@@ -1,0 +1,41 @@
+// The layout of a kind, said once for everything that reads or builds a packet, and the few numbers that every packet has.
+use crate::Kind;
+ghost use mathlib.Core.Path.{_≡_};
+ghost use Prim.Native.Nat.{_+_, _≤_};
+ghost use Rattle.packet.specs.Packets.{before, least, cipherBit};
+
+// How many octets stand before CNTR, counted behind the two lengths; CNTR and PCNTR lie before the check field.
+pub fn before(kind: Kind) -> usize
+    ensures { λ r. ⌜ r ≡ before kind ⌝ }
+    ensures { λ _. ⌜ before kind + 6 ≤ least kind ⌝ }
+{
+    match kind {
+        Kind::Command => 7,
+        Kind::Response => 3,
+    }
+}
+
+// How many octets stand before the check field: the least header length.
+pub fn least(kind: Kind) -> usize
+    ensures { λ r. ⌜ r ≡ least kind ⌝ }
+    ensures { λ _. ⌜ least kind ≤ 13 ⌝ }
+{
+    match kind {
+        Kind::Command => 13,
+        Kind::Response => 10,
+    }
+}
+
+// Whether an SPI whose first octet this is asks for ciphering.
+pub fn cipher_bit(spi: u8) -> bool
+    ensures { λ r. ⌜ r ≡ cipherBit spi ⌝ }
+{
+    spi / 4 % 2 == 1
+}
+
+// An octet as a length.
+pub fn wide(x: u8) -> usize
+    ensures { λ r. ⌜ r ≡ x ⌝ }
+{
+    x as usize
+}

@@ -1,0 +1,251 @@
+// Reading a packet: whether it is well formed, and its fields.
+use crate::Clear;
+use crate::Cntr;
+use crate::Command;
+use crate::CommandBody;
+use crate::Kind;
+use crate::Opaque;
+use crate::ParsedCommand;
+use crate::ParsedResponse;
+use crate::PlainCommand;
+use crate::PlainResponse;
+use crate::Refusal;
+use crate::Response;
+use crate::ResponseBody;
+use crate::Spi;
+use crate::Tar;
+use crate::layout;
+ghost use mathlib.Core.Path.{_≡_};
+ghost use mathlib.Core.List.{[], _∷_};
+ghost use Prim.Native.Nat.{_+_, _-_, _≤_};
+ghost use lib.ListN.{length, take, drop};
+ghost use Rattle.packet.specs.Refusals.{gives};
+ghost use Rattle.packet.specs.Packets.{before, least, chl, formedBy, wellFormed, cipheredCommand, fieldsOf, measured, readable, parsing};
+ghost use Rattle.packet.specs.Told.{tarOctets, clearOctets, counterOctets, commandFields, responseFields, toldCommand, toldResponse};
+ghost use Rattle.packet.specs.Laws.{Formed};
+ghost use Rattle.packet.specs.Within.{toldJudged};
+
+// ---- well formed
+// Whether a packet of `size` octets that begins with these three is well formed: nothing else of a packet is looked at, so a caller whose
+// packet does not lie in one piece can ask too.
+pub fn formed(kind: Kind, size: usize, high: u8, low: u8, header: u8) -> bool
+    ensures { λ r. ⌜ r ≡ formedBy kind size high low header ⌝ }
+{
+    let cpl = octets::number_of(high, low) as usize;
+    let chl = layout::wide(header);
+    let least = layout::least(kind);
+    (cpl + 2 == size) & (least <= chl) & (chl + 1 <= cpl)
+}
+
+// Whether a packet is well formed. One too short to have both lengths is not.
+pub fn well_formed(kind: Kind, packet: &[u8]) -> bool
+    ensures { λ r. ⌜ r ≡ wellFormed kind (now (packet .entry)) ⌝ }
+{
+    if packet.len() < 3 {
+        return false;
+    }
+    formed(kind, packet.len(), packet[0], packet[1], packet[2])
+}
+
+// Whether a command says that its body is ciphered; one too short for an SPI does not.
+pub(crate) fn ciphered_command(packet: &[u8]) -> bool
+    ensures { λ r. ⌜ r ≡ cipheredCommand (now (packet .entry)) ⌝ }
+{
+    if packet.len() <= 3 {
+        return false;
+    }
+    layout::cipher_bit(packet[3])
+}
+
+// What every reading asks of a packet first: the refusal, or the header length of a packet that can be read.
+pub(crate) enum Judged {
+    Readable(usize),
+    Refused(Refusal),
+}
+
+// CHL or RHL.
+fn header_of(packet: &[u8]) -> usize
+    requires { ⌜ 3 ≤ length (now packet) ⌝ }
+    ensures { λ r. ⌜ r ≡ chl (now (packet .entry)) ⌝ }
+{
+    layout::wide(packet[2])
+}
+
+// Whether a packet can be read: 9, then 12.
+pub(crate) fn judge(kind: Kind, packet: &[u8]) -> Judged
+    ensures { λ r. ⌜ toldJudged r ≡ readable kind (now (packet .entry)) (gives (chl (now (packet .entry)))) ⌝ }
+{
+    if !well_formed(kind, packet) {
+        return Judged::Refused(Refusal::NotWellFormed);
+    }
+    if 2142 < packet.len() {
+        return Judged::Refused(Refusal::PacketLength);
+    }
+    Judged::Readable(header_of(packet))
+}
+
+// ---- fields
+// TAR, from a place on.
+fn tar_at(packet: &[u8], at: usize) -> Tar
+    requires { ⌜ at + 3 ≤ length (now packet) ⌝ }
+    ensures { λ r. ⌜ tarOctets r ≡ take 3 (drop at (now (packet .entry))) ⌝ }
+{
+    Tar(packet[at], packet[at + 1], packet[at + 2])
+}
+
+// CNTR, from a place on.
+fn cntr_at(packet: &[u8], at: usize) -> Cntr
+    requires { ⌜ at + 5 ≤ length (now packet) ⌝ }
+    ensures { λ r. ⌜ counterOctets r [] ≡ take 5 (drop at (now (packet .entry))) ⌝ }
+{
+    Cntr(
+        packet[at],
+        packet[at + 1],
+        packet[at + 2],
+        packet[at + 3],
+        packet[at + 4],
+    )
+}
+
+// What stands before the counter of a command.
+fn clear_of(packet: &[u8]) -> Clear
+    requires { ⌜ 10 ≤ length (now packet) ⌝ }
+    ensures { λ r. ⌜ clearOctets r ≡ take 7 (drop 3 (now (packet .entry))) ⌝ }
+{
+    let tar = tar_at(packet, 7);
+    Clear {
+        spi: Spi(packet[3], packet[4]),
+        kic: packet[5],
+        kid: packet[6],
+        tar: tar,
+    }
+}
+
+// How long the check field is.
+fn check_length(kind: Kind, header: usize) -> usize
+    requires { ⌜ least kind ≤ header ⌝ }
+    ensures { λ r. ⌜ r ≡ header - least kind ⌝ }
+{
+    header - layout::least(kind)
+}
+
+// How long the secured data is: what stands behind the header.
+fn data_length(packet: &[u8], header: usize) -> usize
+    requires { ⌜ header + 3 ≤ length (now packet) ⌝ }
+    ensures { λ r. ⌜ r ≡ length (now (packet .entry)) - (header + 3) ⌝ }
+{
+    packet.len() - (header + 3)
+}
+
+// A ciphered body.
+fn opaque_body(kind: Kind, packet: &[u8]) -> Opaque
+    requires { ⌜ Formed kind (now packet) ⌝ }
+    ensures { λ r. ⌜ r .header ≡ chl (now (packet .entry)) ⌝ }
+    ensures { λ r. ⌜ r .octets ≡ length (now (packet .entry)) - (before kind + 3) ⌝ }
+{
+    let from = layout::before(kind) + 3;
+    Opaque {
+        header: packet[2],
+        octets: packet.len() - from,
+    }
+}
+
+// A plain command from its counter on.
+fn plain_command(packet: &[u8], header: usize) -> PlainCommand
+    requires { ⌜ Formed Kind.Command (now packet) ⌝ }
+    requires { ⌜ header ≡ chl (now packet) ⌝ }
+    ensures { λ r. ⌜ counterOctets (r .cntr) (r .pcntr ∷ []) ≡ take 6 (drop 10 (now (packet .entry))) ⌝ }
+    ensures { λ r. ⌜ (r .check ≡ header - 13) × (r .data ≡ length (now (packet .entry)) - (header + 3)) ⌝ }
+{
+    let cntr = cntr_at(packet, 10);
+    PlainCommand {
+        cntr: cntr,
+        pcntr: packet[15],
+        check: check_length(Kind::Command, header),
+        data: data_length(packet, header),
+    }
+}
+
+// A plain response from its counter on.
+fn plain_response(packet: &[u8], header: usize) -> PlainResponse
+    requires { ⌜ Formed Kind.Response (now packet) ⌝ }
+    requires { ⌜ header ≡ chl (now packet) ⌝ }
+    ensures { λ r. ⌜ counterOctets (r .cntr) (r .pcntr ∷ r .status ∷ []) ≡ take 7 (drop 6 (now (packet .entry))) ⌝ }
+    ensures { λ r. ⌜ (r .check ≡ header - 10) × (r .data ≡ length (now (packet .entry)) - (header + 3)) ⌝ }
+{
+    let cntr = cntr_at(packet, 6);
+    PlainResponse {
+        cntr: cntr,
+        pcntr: packet[11],
+        status: packet[12],
+        check: check_length(Kind::Response, header),
+        data: data_length(packet, header),
+    }
+}
+
+// ---- parsing
+// The fields of a well-formed command.
+fn command(packet: &[u8], header: usize) -> Command
+    requires { ⌜ Formed Kind.Command (now packet) ⌝ }
+    requires { ⌜ header ≡ chl (now packet) ⌝ }
+    ensures { λ r. ⌜ commandFields (r .clear) (r .body) ≡ measured (fieldsOf Kind.Command (cipheredCommand (now (packet .entry))) (now (packet .entry))) ⌝ }
+{
+    let clear = clear_of(packet);
+    if ciphered_command(packet) {
+        let body = CommandBody::Ciphered(opaque_body(Kind::Command, packet));
+        Command {
+            clear: clear,
+            body: body,
+        }
+    } else {
+        let body = CommandBody::Plain(plain_command(packet, header));
+        Command {
+            clear: clear,
+            body: body,
+        }
+    }
+}
+
+// The fields of a well-formed response, whose body is ciphered where the caller says so.
+fn response(packet: &[u8], ciphered: bool, header: usize) -> Response
+    requires { ⌜ Formed Kind.Response (now packet) ⌝ }
+    requires { ⌜ header ≡ chl (now packet) ⌝ }
+    ensures { λ r. ⌜ responseFields (r .tar) (r .body) ≡ measured (fieldsOf Kind.Response ciphered (now (packet .entry))) ⌝ }
+{
+    let tar = tar_at(packet, 3);
+    if ciphered {
+        let body = ResponseBody::Ciphered(opaque_body(Kind::Response, packet));
+        Response {
+            tar: tar,
+            body: body,
+        }
+    } else {
+        let body = ResponseBody::Plain(plain_response(packet, header));
+        Response {
+            tar: tar,
+            body: body,
+        }
+    }
+}
+
+// Parses a command: its fields, or refusal 9 or 12.
+pub fn parse_command(packet: &[u8]) -> ParsedCommand
+    ensures { λ r. ⌜ toldCommand r ≡ parsing Kind.Command (cipheredCommand (now (packet .entry))) (now (packet .entry)) ⌝ }
+{
+    let judged = judge(Kind::Command, packet);
+    match judged {
+        Judged::Readable(header) => ParsedCommand::Fields(command(packet, header)),
+        Judged::Refused(refusal) => ParsedCommand::Refused(refusal),
+    }
+}
+
+// Parses a response, of which the caller says whether it is ciphered: its fields, or refusal 9 or 12.
+pub fn parse_response(packet: &[u8], ciphered: bool) -> ParsedResponse
+    ensures { λ r. ⌜ toldResponse r ≡ parsing Kind.Response ciphered (now (packet .entry)) ⌝ }
+{
+    let judged = judge(Kind::Response, packet);
+    match judged {
+        Judged::Readable(header) => ParsedResponse::Fields(response(packet, ciphered, header)),
+        Judged::Refused(refusal) => ParsedResponse::Refused(refusal),
+    }
+}
