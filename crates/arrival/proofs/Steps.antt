@@ -1,0 +1,316 @@
+-- What the proofs of `arrival` cite: one law for each return and call, over plain variables.
+use Prim.Native.Nat.{ℕ, suc, _+_, _-_, _/_, _%_, _^_, _≤_, _<_}
+use mathlib.Core.Path.{_≡_, refl, sym, ap, _∙_}
+use mathlib.Core.List.{List, [], _∷_}
+use mathlib.Core.Bool.{Bool, true, false, not, _||_, Bool·beq}
+use mathlib.Core.Option.{Option, none, some}
+use native.Mathlib.Omega.{arith}
+use native.Mathlib.Nat.{add-sub-cancel, add-sub-cancel-left}
+use native.Mathlib.Numerals.{add-one, add-two}
+use lib.ListN.{length, getD, take, drop, length-drop, drop-of-length-le}
+use lib.Seq.{drop-cons, take-all}
+use lib.Dec.{eqb, leb·zero}
+use mir.Syntax.{w8, w16, w64}
+use mir.Val.{Fits}
+use borrow.Author.Needs.{needs}
+use borrow.Author.Tests.{le-leb, lt-leb, lt-ltb, le-ltb, eq-eqb, ne-eqb}
+use Rattle.packet.specs.declared.Kind.{Kind}
+use Rattle.octets.specs.Octets.{numberOf}
+use Rattle.packet.specs.Refusals.{refused, gives}
+use Rattle.packet.specs.Packets.{differ}
+use Rattle.arrival.specs.declared.Concatenation.{Concatenation}
+use Rattle.arrival.specs.declared.Seen.{Seen}
+use Rattle.arrival.specs.declared.Cursor.{Cursor}
+use Rattle.arrival.specs.declared.Element.{Element}
+use Rattle.arrival.specs.declared.Element.the-variants as element
+use Rattle.arrival.specs.declared.Walked.{Walked}
+use Rattle.arrival.specs.declared.Walked.the-variants as whole
+use Rattle.arrival.specs.declared.Arrival.{Arrival}
+use Rattle.arrival.specs.declared.Key.{Key}
+use Rattle.arrival.specs.declared.SerialNumber.{SerialNumber}
+use Rattle.arrival.specs.declared.MessageIdentifier.{MessageIdentifier}
+use Rattle.arrival.specs.Arrivals.{single, part, toldArrival}
+use Rattle.arrival.specs.Header.{Item, item, _∷?_, elements, summary}
+use Rattle.arrival.specs.Message.{alone, opens, own, foreign, misplaced, messageKey, judged, whereRead, readMessage, headerOctets, afterHeader}
+use Rattle.arrival.specs.Page.{serialIn, identifierIn, parameterIn, oneOfOne, pageTotal, pageNumber, pageKey, noPages, identifierInRange, readPage}
+use Rattle.arrival.specs.Reading.{misdirected, firstElement, narrowIn, wideIn, nothingSeen, wrongSeen, concatenationSeen, commandSeen, responseSeen, added, seenAfter, collected, walked}
+use Rattle.arrival.specs.Laws.{elements-none}
+use Rattle.arrival.proofs.Reading.{elements-at, Stands, read-place, judged-all}
+
+-- an octet fits every wider number
+pub octet-fits-16 : (l : List ℕ) (i : ℕ) → ((k : ℕ) → Fits w8 (getD l k 0)) → Fits w16 (getD l i 0)
+octet-fits-16 l i f = omega (arith, f i)
+
+pub octet-fits-64 : (l : List ℕ) (i : ℕ) → ((k : ℕ) → Fits w8 (getD l k 0)) → Fits w64 (getD l i 0)
+octet-fits-64 l i f = omega (arith, f i)
+
+-- ---- the element at a place, by the tests that `element` makes
+module _ (h : List ℕ) (i : ℕ) where
+  pub past-end : length h ≤ i → element.Past ≡ firstElement i (drop i h)
+  unfolding firstElement
+  past-end l = rw (drop-of-length-le h l)
+
+  pub past-lone : i < length h → length h ≤ i + 1 → element.Past ≡ firstElement i (drop i h)
+  unfolding firstElement
+  past-lone l m = let m′ : length h ≤ suc i = omega arith in rw (drop-cons h i 0 l, drop-of-length-le h m′)
+
+  drop-two : i + 1 < length h → drop i h ≡ getD h i 0 ∷ getD h (i + 1) 0 ∷ drop (i + 2) h
+  drop-two l = rw (add-one, add-two, drop-cons h i 0 (omega arith), drop-cons h (suc i) 0 (omega arith))
+
+  pub read-whole : i + 1 < length h → getD h (i + 1) 0 ≤ length h - (i + 2)
+      → element.Read (getD h i 0) (i + 2) (getD h (i + 1) 0) (record { at = i + 2 + getD h (i + 1) 0 }) ≡ firstElement i (drop i h)
+  unfolding firstElement
+  read-whole l m = rw (drop-two l, length-drop, le-leb _ _ m)
+
+  pub past-long : i + 1 < length h → length h - (i + 2) < getD h (i + 1) 0 → element.Past ≡ firstElement i (drop i h)
+  unfolding firstElement
+  past-long l m = rw (drop-two l, length-drop, lt-leb _ _ m)
+
+-- ---- an element more, by its identifier and its length
+module _ (s r : Seen) (a : ℕ) (o : List ℕ) where
+  pub plus-narrow : a ≡ 0x00 → length o ≡ 3 → (c : Concatenation) → c ≡ narrowIn o → r ≡ concatenationSeen s c → r ≡ added s (item a o)
+  unfolding added
+  plus-narrow e l c f g = rw (e, l) (g ∙ ap (concatenationSeen s) f)
+
+  pub plus-wide : a ≡ 0x08 → length o ≡ 4 → (c : Concatenation) → c ≡ wideIn o → r ≡ concatenationSeen s c → r ≡ added s (item a o)
+  unfolding added
+  plus-wide e l c f g = rw (e, l) (g ∙ ap (concatenationSeen s) f)
+
+  pub plus-command : a ≡ 0x70 → length o ≡ 0 → r ≡ commandSeen s → r ≡ added s (item a o)
+  unfolding added
+  plus-command e l g = rw (e, l) g
+
+  pub plus-response : a ≡ 0x71 → length o ≡ 0 → r ≡ responseSeen s → r ≡ added s (item a o)
+  unfolding added
+  plus-response e l g = rw (e, l) g
+
+  pub wrong-narrow : a ≡ 0x00 → (length o ≡ 3 → ⊥) → r ≡ wrongSeen s → r ≡ added s (item a o)
+  unfolding added
+  wrong-narrow e l g = rw (e, ne-eqb _ _ l) g
+
+  pub wrong-wide : a ≡ 0x08 → (length o ≡ 4 → ⊥) → r ≡ wrongSeen s → r ≡ added s (item a o)
+  unfolding added
+  wrong-wide e l g = rw (e, ne-eqb _ _ l) g
+
+  pub wrong-command : a ≡ 0x70 → (length o ≡ 0 → ⊥) → r ≡ wrongSeen s → r ≡ added s (item a o)
+  unfolding added
+  wrong-command e l g = rw (e, ne-eqb _ _ l) g
+
+  pub wrong-response : a ≡ 0x71 → (length o ≡ 0 → ⊥) → r ≡ wrongSeen s → r ≡ added s (item a o)
+  unfolding added
+  wrong-response e l g = rw (e, ne-eqb _ _ l) g
+
+pub plus-other : (s : Seen) (a : ℕ) (o : List ℕ) → (a ≡ 0x00 → ⊥) → (a ≡ 0x08 → ⊥) → (a ≡ 0x70 → ⊥) → (a ≡ 0x71 → ⊥) → s ≡ added s (item a o)
+unfolding added
+plus-other s a o p q r t = rw (ne-eqb _ _ p, ne-eqb _ _ q, ne-eqb _ _ r, ne-eqb _ _ t)
+
+-- ---- one step of the walk, at the place i below the end: r stands there
+pub walked-end : (h : List ℕ) (i : ℕ) (s : Seen) → length h ≤ i → whole.Header s ≡ walked h i s
+walked-end h i s l = rw (drop-of-length-le h l, elements-none)
+
+collected-more : (s : Seen) (e : Item) (o : Option (List Item)) → collected (added s e) o ≡ collected s (e ∷? o)
+collected-more s e none = refl
+collected-more s e (some es) = refl
+
+module _ (h : List ℕ) (i : ℕ) (r : Element) (l : i < length h) (rule : r ≡ firstElement i (drop i h)) where
+  pub walked-past : (s : Seen) → r ≡ element.Past → whole.Past ≡ walked h i s
+  walked-past s e = rw (elements-at h i l, ← rule, e)
+
+  module _ (a b n : ℕ) (next : Cursor) (found : r ≡ element.Read a b n next) where
+    pub walked-read : (s s′ : Seen) (o : Walked) → s′ ≡ added s (item a (take (b + n - b) (drop b h))) → o ≡ walked h (next .at) s′ → o ≡ walked h i s
+    walked-read s s′ o e w =
+        rw (elements-at h i l, ← rule, found)
+        (w ∙ rw (e, add-sub-cancel-left) (collected-more s (item a (take n (drop b h))) (elements (drop (next .at) h))))
+
+    place : Stands i b n (next .at) (length h - i)
+    place = rw length-drop at (read-place i (drop i h) (sym rule ∙ found))
+
+    pub own-end : b + n ≤ length h
+    own-end = omega (arith, place)
+
+    pub own-fits : length h < 2 ^ 64 → Fits w64 (b + n)
+    own-fits m = omega (arith, place)
+
+    pub step-falls : (t : ℕ) → length h - i ≡ t → length h - next .at < t
+    step-falls t e = omega (arith, place)
+
+pub wide-told : (n : ℕ) (o : List ℕ) → n ≡ numberOf (getD o 0 0) (getD o 1 0)
+    → _≡_ {A = Concatenation} (record { width = 16; reference = n; total = getD o 2 0; number = getD o 3 0 }) (wideIn o)
+wide-told n o e = rw e
+
+-- ---- judging
+pub opens-told : (b : Bool) (c : Concatenation) → b ≡ alone c → b || eqb (c .number) 1 ≡ opens c
+opens-told b c e = rw e
+
+differ-told : (a b : Bool) → not (Bool·beq a b) ≡ differ a b
+differ-told true true = refl
+differ-told true false = refl
+differ-told false true = refl
+differ-told false false = refl
+
+pub misplaced-told : (f o w : Bool) (k : Kind) (s : Seen) → f ≡ foreign k s → o ≡ opens (s .concatenation) → w ≡ own k s
+    → f || not (Bool·beq o w) ≡ misplaced k s
+misplaced-told f o w k s p q r = rw (differ-told o w, p, q, r)
+
+module _ (k : Kind) (sender start : ℕ) (s : Seen) where
+  pub judged-element : (s .wrong || s .twice) ≡ true → refused 4 ≡ judged k sender start s
+  unfolding judged
+  judged-element e = rw e
+
+  module _ (right : (s .wrong || s .twice) ≡ false) (m : Bool) (rule : m ≡ misplaced k s) where
+    pub judged-misplaced : m ≡ true → refused 5 ≡ judged k sender start s
+    unfolding judged
+    judged-misplaced e = rw (right, ← rule, e)
+
+    module _ (here : m ≡ false) (a : Bool) (sole : a ≡ alone (s .concatenation)) where
+      pub judged-single : a ≡ true → gives (single start) ≡ judged k sender start s
+      unfolding judged
+      judged-single e = rw (right, ← rule, here, ← sole, e)
+
+      pub judged-total : a ≡ false → 16 < s .concatenation .total → refused 6 ≡ judged k sender start s
+      unfolding judged
+      judged-total e l = rw (right, ← rule, here, ← sole, e, lt-ltb _ _ l)
+
+      pub judged-part : a ≡ false → s .concatenation .total ≤ 16 → (x : Key) → x ≡ messageKey sender (s .concatenation)
+          → gives (part x (s .concatenation .total) (s .concatenation .number) start) ≡ judged k sender start s
+      unfolding judged
+      judged-part e l x f = rw (right, ← rule, here, ← sole, e, le-ltb _ _ l, f)
+
+-- ---- the message
+module _ (k : Kind) (sender : ℕ) (ud : List ℕ) where
+  pub message-size : 140 < length ud → refused 2 ≡ readMessage k sender ud
+  unfolding readMessage
+  message-size l = rw (lt-ltb _ _ l)
+
+  module _ (fits : length ud ≤ 140) where
+    pub message-empty : length ud ≡ 0 → refused 3 ≡ readMessage k sender ud
+    unfolding readMessage
+    message-empty e = rw (e, leb·zero)
+
+    pub message-long : length ud ≤ getD ud 0 0 → refused 3 ≡ readMessage k sender ud
+    unfolding readMessage
+    message-long l = rw (le-ltb _ _ fits, le-leb _ _ l)
+
+    module _ (inside : getD ud 0 0 < length ud) (s : Seen) (fresh : s ≡ nothingSeen) (w : Walked)
+        (rule : w ≡ walked (take (getD ud 0 0 + 1 - 1) (drop 1 ud)) 0 s) where
+      told-header : w ≡ collected nothingSeen (elements (headerOctets ud))
+      told-header = rule ∙ rw (fresh, add-sub-cancel)
+
+      pub message-past : w ≡ whole.Past → refused 3 ≡ readMessage k sender ud
+      unfolding readMessage
+      message-past e = rw (le-ltb _ _ fits, lt-leb _ _ inside) (go (elements (headerOctets ud)) (sym told-header ∙ e))
+        where
+          go : (o : Option (List Item)) → collected nothingSeen o ≡ whole.Past
+              → refused 3 ≡ whereRead (λ es. judged k sender (afterHeader ud) (summary es)) o
+          go none e = refl
+          go (some es) e = let z : _≡_ {A = ℕ} 0 1 = cc in absurd (omega arith)
+
+      pub message-judged : (seen : Seen) → w ≡ whole.Header seen → (r : Arrival) → toldArrival r ≡ judged k sender (getD ud 0 0 + 1) seen
+          → toldArrival r ≡ readMessage k sender ud
+      unfolding readMessage
+      message-judged seen e r f = rw (le-ltb _ _ fits, lt-leb _ _ inside) (f ∙ go (elements (headerOctets ud)) (sym told-header ∙ e))
+        where
+          go : (o : Option (List Item)) → collected nothingSeen o ≡ whole.Header seen
+              → judged k sender (afterHeader ud) seen ≡ whereRead (λ es. judged k sender (afterHeader ud) (summary es)) o
+          go none e = let z : _≡_ {A = ℕ} 0 1 = cc in absurd (omega arith)
+          go (some es) e =
+              let same : seen ≡ seenAfter nothingSeen es = cc in
+              ap (judged k sender (afterHeader ud)) same ∙ judged-all k sender (afterHeader ud) es
+
+-- ---- the page
+module _ (p : ℕ) (b : Bool) (rule : b ≡ oneOfOne p) where
+  pub total-one : b ≡ true → 1 ≡ pageTotal p
+  total-one e = rw (← rule, e)
+
+  pub number-one : b ≡ true → 1 ≡ pageNumber p
+  number-one e = rw (← rule, e)
+
+  pub total-low : b ≡ false → p % 16 ≡ pageTotal p
+  total-low e = rw (← rule, e)
+
+  pub number-high : b ≡ false → p / 16 ≡ pageNumber p
+  number-high e = rw (← rule, e)
+
+pub misdirected-told : (a b : Bool) (k : Kind) (i : ℕ) → a ≡ noPages k → b ≡ identifierInRange i → a || not b ≡ misdirected k i
+misdirected-told a b k i e f = rw (e, f)
+
+module _ (k : Kind) (page : List ℕ) where
+  pub page-size : (length page ≡ 88 → ⊥) → refused 2 ≡ readPage k page
+  unfolding readPage
+  page-size e = rw (ne-eqb _ _ e)
+
+  module _ (size : length page ≡ 88) (t n : ℕ) (low : t ≡ pageTotal (parameterIn page)) (high : n ≡ pageNumber (parameterIn page)) where
+    pub page-number : t < n → refused 4 ≡ readPage k page
+    unfolding readPage
+    page-number l = rw (eq-eqb _ _ size, ← low, ← high, lt-ltb _ _ l)
+
+    module _ (l : n ≤ t) (m : Bool) (x : MessageIdentifier) (read : x .0 ≡ identifierIn page) (rule : m ≡ misdirected k (x .0)) where
+      pub page-misdirected : m ≡ true → refused 5 ≡ readPage k page
+      unfolding readPage
+      page-misdirected e = rw (eq-eqb _ _ size, ← low, ← high, le-ltb _ _ l, ← read, ← rule, e)
+
+      pub page-single : m ≡ false → t ≡ 1 → gives (single 6) ≡ readPage k page
+      unfolding readPage
+      page-single e o = rw (eq-eqb _ _ size, ← low, ← high, le-ltb _ _ l, ← read, ← rule, e, eq-eqb _ _ o)
+
+      pub page-part : m ≡ false → (t ≡ 1 → ⊥) → (z : SerialNumber) → z .0 ≡ serialIn page → (y : Key) → y ≡ pageKey (z .0) (x .0) → gives (part y t n 6) ≡ readPage k page
+      unfolding readPage
+      page-part e o z g y f = rw (eq-eqb _ _ size, ← low, ← high, le-ltb _ _ l, ← read, ← rule, e, ne-eqb _ _ o, ← g, f)
+
+-- ---- the part's own octets
+module _ (o : List ℕ) (start : ℕ) where
+  pub own-none : length o < start → [] ≡ drop start o
+  own-none l = let m : length o ≤ start = omega arith in sym (drop-of-length-le o m)
+
+  pub own-rest : take (length o - start) (drop start o) ≡ drop start o
+  own-rest = take-all (length o - start) (drop start o) (simp length-drop (omega arith))
+
+pub ruleset steps = (
+  needs,
+  octet-fits-16,
+  octet-fits-64,
+  past-end,
+  past-lone,
+  read-whole,
+  past-long,
+  plus-narrow,
+  plus-wide,
+  plus-command,
+  plus-response,
+  wrong-narrow,
+  wrong-wide,
+  wrong-command,
+  wrong-response,
+  plus-other,
+  walked-end,
+  walked-past,
+  walked-read,
+  own-end,
+  own-fits,
+  step-falls,
+  wide-told,
+  opens-told,
+  misplaced-told,
+  judged-element,
+  judged-misplaced,
+  judged-single,
+  judged-total,
+  judged-part,
+  message-size,
+  message-empty,
+  message-long,
+  message-past,
+  message-judged,
+  total-one,
+  number-one,
+  total-low,
+  number-high,
+  misdirected-told,
+  page-size,
+  page-number,
+  page-misdirected,
+  page-single,
+  page-part,
+  own-none,
+  own-rest,
+)
