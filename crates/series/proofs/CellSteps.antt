@@ -1,0 +1,186 @@
+-- What the proofs of `cells` and `packets` search: one law for each return, call and turn of a loop, over plain variables.
+use Prim.Native.Nat.{ℕ, zero, suc, _+_, _-_, _*_, _≤_, _<_}
+use mathlib.Core.Path.{_≡_, sym, ap, _∙_}
+use mathlib.Core.Bool.{Bool, true, false, not, _&&_, _||_}
+use mathlib.Core.List.{List, [], _++_}
+use mathlib.Core.Option.{none, some}
+use native.Mathlib.Omega.{arith}
+use lib.ListN.{length, take, drop, getD, length-take, List·getD-eq-default}
+use lib.Seq.{length-take-le, take-all}
+use borrow.Author.Needs.{needs}
+use borrow.Author.Tests.{lt-ltb, le-ltb, not-true, not-false}
+use Rattle.octets.specs.Octets.{numberOf, placed, afterPut}
+use Rattle.octets.specs.Laws.{put-fits, length-placed}
+use Rattle.packet.specs.declared.Kind.{Kind}
+use Rattle.packet.specs.Packets.{formedBy}
+use Rattle.arrival.specs.Message.{mostParts}
+use Rattle.series.specs.declared.packets.Front.{Front}
+use Rattle.series.specs.Slots.{slotCount}
+use Rattle.series.specs.Cells.{cellOctets, cellsSize, joined, pagesAllow}
+use Rattle.series.specs.Handing.{Short, pieceOf, frontOf, octetAfter, frontAfter, sizeIn, holdsPacket, sizeBy}
+use Rattle.series.proofs.CellLaws.{part-from, same-as, stored, short-at, piece-new, piece-held, piece-length, joined-none, joined-more, joined-length, start-written, Written, written-none, written-more}
+use Rattle.series.proofs.FrontLaws.{front-more, none-told, none-kept, packet-inside, packet-fits, packet-told, packet-written}
+
+-- ---- the front
+module _ (i n held : ℕ) (p : List ℕ) where
+  pub octet-held : i < n → held ≡ octetAfter i n held p
+  octet-held l = rw (lt-ltb i n l)
+
+  pub octet-new : n ≤ i → getD p (i - n) 0 ≡ octetAfter i n held p
+  octet-new l = rw (le-ltb i n l)
+
+  pub octet-none : n ≤ i → length p ≤ i - n → 0 ≡ octetAfter i n held p
+  octet-none l m = rw (le-ltb i n l) (sym (List·getD-eq-default p 0 m))
+
+module _ (f : Front) (p : List ℕ) where
+  pub front-seen : 3 ≤ f .count
+      → record { count = f .count + length p; high = f .high; low = f .low; header = f .header } ≡ frontAfter f p
+  front-seen l = rw (lt-ltb 0 (f .count) (omega arith), lt-ltb 1 (f .count) (omega arith), lt-ltb 2 (f .count) (omega arith))
+
+  pub front-octets : (a b c : ℕ) → a ≡ octetAfter 0 (f .count) (f .high) p → b ≡ octetAfter 1 (f .count) (f .low) p
+      → c ≡ octetAfter 2 (f .count) (f .header) p → record { count = f .count + length p; high = a; low = b; header = c } ≡ frontAfter f p
+  front-octets a b c x y z = rw (x, y, z)
+
+  pub front-first : (r : Front) → f ≡ frontOf [] → r ≡ frontAfter f p → r ≡ frontOf p
+  front-first r e h = rw (h, e) (front-more [] p)
+
+pub count-none : (f : Front) → f ≡ frontOf [] → f .count ≤ mostParts * cellOctets
+count-none f e = rw e (omega arith)
+
+-- the parts of a series: none yet, one more, all of them
+module _ (cells lengths : List ℕ) (s number : ℕ) (part : List ℕ) where
+  abbrev piece : ℕ → List ℕ
+  piece = pieceOf cells lengths s number part
+
+  pub front-none : (f : Front) → f ≡ frontOf [] → f ≡ frontOf (joined piece 0)
+  front-none f e = e ∙ ap frontOf (sym (joined-none piece))
+
+  pub front-next : (f r : Front) (k : ℕ) (p : List ℕ) → p ≡ piece (k + 1) → r ≡ frontAfter f p → f ≡ frontOf (joined piece k)
+      → r ≡ frontOf (joined piece (k + 1))
+  front-next f r k p is more e = rw (more, e, is, front-more (joined piece k) (piece (k + 1))) (ap frontOf (sym (joined-more piece k)))
+
+  pub front-all : (f : Front) (k total : ℕ) → f ≡ frontOf (joined piece k) → k ≤ total → total ≤ k → f ≡ frontOf (joined piece total)
+  front-all f k total e u v = let h : k ≡ total = omega arith in rw h at e
+
+  pub count-joined : (f : Front) (k total : ℕ) → f ≡ frontOf (joined piece k) → k < total → (s < slotCount) × (total ≤ mostParts)
+      → Short lengths → (length part ≤ cellOctets) × (length cells ≡ cellsSize slotCount) → f .count ≤ mostParts * cellOctets
+  count-joined f k total e l (u, v) short (size, whole) = rw e (go k (omega arith))
+    where
+      each : (i : ℕ) → 0 < i → i ≤ mostParts → length (piece i) ≤ cellOctets
+      each i a b = piece-length cells lengths s number part i cellOctets (λ q. size) (short (i - 1) (omega arith))
+
+      go : (n : ℕ) → n ≤ mostParts → length (joined piece n) ≤ mostParts * cellOctets
+      go zero h = rw (joined-none piece) (omega arith)
+      go (suc n) h =
+          omega (arith, joined-length piece 0 n (omega (arith, each 1 (omega arith) (omega arith))) (λ i a b. each i a (omega arith)))
+
+-- ---- the packet's length
+module _ (paged : Bool) (f : Front) where
+  pub size-all : not paged ≡ true → f .count ≡ sizeIn paged f
+  size-all e = rw (not-true paged e)
+
+  module _ (n : ℕ) (e : not paged ≡ false) (is : n ≡ numberOf (f .high) (f .low)) where
+    pub size-stated : n + 2 ≤ f .count → n + 2 ≡ sizeIn paged f
+    size-stated l = rw (not-false paged e) (omega arith)
+
+    pub size-fewer : f .count < n + 2 → f .count ≡ sizeIn paged f
+    size-fewer l = rw (not-false paged e) (omega arith)
+
+  module _ (k : Kind) (t size : ℕ) (a b : Bool) (counts : size ≡ sizeIn paged f)
+      (formed : a ≡ formedBy k size (f .high) (f .low) (f .header)) (allowed : b ≡ pagesAllow t size) where
+    tested : (a && (not paged || b)) ≡ holdsPacket k paged t f
+    tested = rw (formed, allowed, counts)
+
+    pub packet-there : (a && (not paged || b)) ≡ true → some size ≡ sizeBy k paged t f
+    unfolding sizeBy
+    packet-there h = rw (← tested, h, counts)
+
+    pub packet-none : (a && (not paged || b)) ≡ false → none ≡ sizeBy k paged t f
+    unfolding sizeBy
+    packet-none h = rw (← tested, h)
+
+-- ---- writing
+pub take-count : (n : ℕ) (p : List ℕ) → n < length p → n ≡ length (take n p)
+take-count n p l = sym (length-take-le n p (omega arith))
+
+pub take-whole : (n : ℕ) (p : List ℕ) → length p ≤ n → p ≡ take n p
+take-whole n p l = sym (take-all n p l)
+
+-- what is put up to the limit stands there, inside the buffer, which keeps its length
+module _ (p q d e : List ℕ) (limit at : ℕ) (is : q ≡ take (limit - at) p) where
+  pub put-past : at + length q ≡ at + length (take (limit - at) p)
+  put-past = rw is
+
+  pub put-inside : at ≤ limit → limit ≤ length d → e ≡ afterPut d at q → e ≡ placed d at (take (limit - at) p)
+  put-inside u v h =
+      h ∙ put-fits d at q (omega (arith, ap length is, length-take (limit - at) p)) ∙ ap (placed d at) is
+
+pub place-next : (p : List ℕ) (limit at r : ℕ) → at ≤ limit → r ≡ at + length (take (limit - at) p) → r ≤ limit
+place-next p limit at r l e = omega (arith, length-take (limit - at) p)
+
+pub length-next : (p d o o′ : List ℕ) (limit at : ℕ) → o′ ≡ placed o at (take (limit - at) p) → at ≤ limit → limit ≤ length d
+    → length o ≡ length d → length o′ ≡ length d
+length-next p d o o′ limit at e u v h =
+    ap length e ∙ length-placed o at (take (limit - at) p) (omega (arith, length-take (limit - at) p)) ∙ h
+
+pub single-written : (p d e : List ℕ) (limit : ℕ) → limit ≤ length p → e ≡ placed d 0 (take (limit - 0) p) → e ≡ take limit p ++ drop limit d
+single-written p d e limit l h = let z : limit - 0 ≡ limit = omega arith in start-written p d e limit l (rw z at h)
+
+module _ (cells lengths : List ℕ) (s number : ℕ) (part : List ℕ) (limit : ℕ) (d : List ℕ) where
+  pub written-start : Written (piece cells lengths s number part) limit d 0 0 d
+  written-start = written-none (piece cells lengths s number part) limit d
+
+  pub written-next : (k at r : ℕ) (o o′ p : List ℕ) → p ≡ piece cells lengths s number part (k + 1)
+      → (r ≡ at + length (take (limit - at) p)) × (o′ ≡ placed o at (take (limit - at) p))
+      → Written (piece cells lengths s number part) limit d k at o → Written (piece cells lengths s number part) limit d (k + 1) r o′
+  written-next k at r o o′ p is (to, put) w = written-more (piece cells lengths s number part) limit d k at r o o′ p w is to put
+
+  pub written-whole : (k total at : ℕ) (o : List ℕ) → k ≤ total → total ≤ k
+      → (limit ≤ length (joined (piece cells lengths s number part) total)) × (limit ≤ length d)
+      → Written (piece cells lengths s number part) limit d k at o
+      → o ≡ take limit (joined (piece cells lengths s number part) total) ++ drop limit d
+  written-whole k total at o u v (l, m) w =
+      let h : k ≡ total = omega arith in
+      let w′ = rw h at w in start-written (joined (piece cells lengths s number part) total) d o limit l (w′ .is)
+
+pub ruleset cellSteps = (
+  needs,
+  part-from,
+  same-as,
+  stored,
+  short-at,
+  piece-new,
+  piece-held,
+  octet-held,
+  octet-new,
+  octet-none,
+  front-seen,
+  front-octets,
+  front-first,
+  count-none,
+  front-none,
+  front-next,
+  front-all,
+  count-joined,
+  size-all,
+  size-stated,
+  size-fewer,
+  packet-there,
+  packet-none,
+  take-count,
+  take-whole,
+  put-past,
+  put-inside,
+  place-next,
+  length-next,
+  single-written,
+  written-start,
+  written-next,
+  written-whole,
+  none-told,
+  none-kept,
+  packet-inside,
+  packet-fits,
+  packet-told,
+  packet-written,
+)

@@ -1,0 +1,27 @@
+-- `extended` meets its contract: with three octets seen each of them stays, and else each is what `octet` gives. Assumes nothing.
+use Rattle.series.proofs.CellSteps.{cellSteps}
+use Rattle.series.proofs.packets.extended.Statement.{statement}
+use Rattle.series.proofs.packets.extended.Tie as tie
+
+add-count : tie.Need-add-count
+add-count c = search cellSteps
+
+returns : tie.Need-returns
+returns c = search cellSteps
+
+octet-requires : tie.Need-octet-requires
+octet-requires c κs = search cellSteps
+
+octet-requires-2 : tie.Need-octet-requires-2
+octet-requires-2 c κs = search cellSteps
+
+octet-requires-3 : tie.Need-octet-requires-3
+octet-requires-3 c κs = search cellSteps
+
+returns-2 : tie.Need-returns-2
+returns-2 c = search cellSteps
+
+pub extended-spec : {M : Type 1} → statement M
+extended-spec =
+    tie.close
+    (tie.spec add-count returns octet-requires octet-requires-2 octet-requires-3 returns-2)

@@ -1,0 +1,42 @@
+-- `hand_out` meets its contract: the front tells the packet's length, which the joined octets have, and `join` writes that many of them; where
+-- it tells of none, nothing is written. Assumes nothing.
+use Rattle.series.proofs.CellSteps.{cellSteps}
+use Rattle.series.proofs.packets.hand_out.Statement.{statement}
+use Rattle.series.proofs.packets.hand_out.Tie as tie
+
+joined-front-requires : tie.Need-joined-front-requires
+joined-front-requires c κs = search cellSteps
+
+packet-size-requires : tie.Need-packet-size-requires
+packet-size-requires c κs = search cellSteps
+
+enum-known-size : tie.Need-enum-known-size
+enum-known-size c = search cellSteps
+
+join-requires : tie.Need-join-requires
+join-requires c κs = (search cellSteps, (search cellSteps, (search cellSteps, (search cellSteps, search cellSteps))))
+
+enum-told : tie.Need-enum-told
+enum-told c = search cellSteps
+
+same-length : tie.Need-same-length
+same-length c = search cellSteps
+
+returns : tie.Need-returns
+returns c = search cellSteps
+
+returns-2 : tie.Need-returns-2
+returns-2 c = search cellSteps
+
+pub hand-out-spec : {M : Type 1} → statement M
+hand-out-spec =
+    tie.close
+    (tie.spec
+    joined-front-requires
+    packet-size-requires
+    enum-known-size
+    join-requires
+    enum-told
+    same-length
+    returns
+    returns-2)

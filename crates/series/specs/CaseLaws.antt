@@ -1,0 +1,99 @@
+-- What a part does, by cases: each step with the facts under which 01 asks for it.
+use Prim.Native.Nat.{ℕ, zero, suc, _≤_, _<_}
+use mathlib.Core.Path.{_≡_, refl, sym, ap, _∙_}
+use mathlib.Core.Bool.{Bool, true, false, not, cond, _&&_}
+use mathlib.Core.List.{List}
+use mathlib.Core.Option.{Option, none, some}
+use native.Mathlib.Omega.{arith}
+use lib.ListN.{length}
+use lib.Dec.{eqb}
+use borrow.Author.Tests.{eqb-true, eqb-false, not-true, not-false, ne-eqb}
+use Rattle.octets.specs.Octets.{sameOctets}
+use Rattle.octets.specs.Laws.{same-true, same-false}
+use Rattle.octets.specs.Tests.{clash, both}
+use Rattle.arrival.specs.declared.Key.{Key}
+use Rattle.series.specs.declared.Slot.{Slot}
+use Rattle.series.specs.Slots.{slotAt, opened, used, sameKey, bears, isFree, find, isLeastRecent, slotOr, heldAt}
+use Rattle.series.specs.Cells.{cellPart}
+use Rattle.series.specs.Taking.{State, Step, refuses, repeats, keeps, finishes, completes, stepIn, stepNew, stepFor, step}
+use Rattle.series.specs.RankLaws.{pos-taken, last-rank}
+use Rattle.series.specs.FrontLaws.{same-key, key-same, Found, hit, miss, find?}
+use Rattle.series.specs.FormedLaws.{Formed}
+
+-- slot i bears a series of that key; no slot does
+pub record Bears (n : ℕ) (xs : List Slot) (X : Key) (i : ℕ) : Type 0 where
+  pub inside : i < n
+  pub used : 0 < slotAt xs i .rank
+  pub key : slotAt xs i .key ≡ X
+
+abbrev pub Lacks : ℕ → List Slot → Key → Type 0
+Lacks n xs key = (j : ℕ) → j < n → 0 < slotAt xs j .rank → slotAt xs j .key ≡ key → ⊥
+
+module _ (n : ℕ) (s : State) (key : Key) (total number : ℕ) (octets : List ℕ) where
+  abbrev at : ℕ → Slot
+  at i = slotAt (s .rec .slots) i
+
+  pub data Case : Step → Type 0 where
+    other-total : (i : ℕ) → Bears n (s .rec .slots) key i → (slotAt (s .rec .slots) i .total ≡ total → ⊥) → Case (refuses 7)
+    other-octets : (i : ℕ) → Bears n (s .rec .slots) key i → slotAt (s .rec .slots) i .total ≡ total → heldAt (slotAt (s .rec .slots) i) number ≡ true
+        → (cellPart (s .cells) (slotAt (s .rec .slots) i) i number ≡ octets → ⊥) → Case (refuses 8)
+    again : (i : ℕ) → Bears n (s .rec .slots) key i → slotAt (s .rec .slots) i .total ≡ total → heldAt (slotAt (s .rec .slots) i) number ≡ true
+        → cellPart (s .cells) (slotAt (s .rec .slots) i) i number ≡ octets → Case (repeats i)
+    last : (i : ℕ) → Bears n (s .rec .slots) key i → slotAt (s .rec .slots) i .total ≡ total → heldAt (slotAt (s .rec .slots) i) number ≡ false
+        → completes (slotAt (s .rec .slots) i) number ≡ true → Case (finishes i)
+    more : (i : ℕ) → Bears n (s .rec .slots) key i → slotAt (s .rec .slots) i .total ≡ total → heldAt (slotAt (s .rec .slots) i) number ≡ false
+        → completes (slotAt (s .rec .slots) i) number ≡ false → Case (keeps i false (slotAt (s .rec .slots) i))
+    opens : (i : ℕ) → Lacks n (s .rec .slots) key → i < n → slotAt (s .rec .slots) i .rank ≡ 0 → Case (keeps i false (opened key total))
+    displaces : (i : ℕ) → Lacks n (s .rec .slots) key → i < n → slotAt (s .rec .slots) i .rank ≡ n
+        → ((j : ℕ) → j < n → 0 < slotAt (s .rec .slots) j .rank) → Case (keeps i true (opened key total))
+
+  module _ (pos : 0 < n) (w : Formed n (s .rec .kind) (s .rec .slots)) where
+    module _ (i : ℕ) (b : Bears n (s .rec .slots) key i) where
+      case-last : at i .total ≡ total → heldAt (at i) number ≡ false → (c : Bool) → completes (at i) number ≡ c → Case (cond c (finishes i) (keeps i false (at i)))
+      case-last t h true e = last i b t h e
+      case-last t h false e = more i b t h e
+
+      case-octets : at i .total ≡ total → heldAt (at i) number ≡ true → (c : Bool) → sameOctets (cellPart (s .cells) (at i) i number) octets ≡ c
+          → Case (cond c (repeats i) (refuses 8))
+      case-octets t h true e = again i b t h (same-true (cellPart (s .cells) (at i) i number) octets e)
+      case-octets t h false e = other-octets i b t h (same-false (cellPart (s .cells) (at i) i number) octets e)
+
+      case-held : at i .total ≡ total → (c : Bool) → heldAt (at i) number ≡ c
+          → Case (cond c (cond (sameOctets (cellPart (s .cells) (at i) i number) octets) (repeats i) (refuses 8)) (cond (completes (at i) number) (finishes i) (keeps i false (at i))))
+      case-held t true e = case-octets t e (sameOctets (cellPart (s .cells) (at i) i number) octets) refl
+      case-held t false e = case-last t e (completes (at i) number) refl
+
+      case-in : (c : Bool) → eqb (at i .total) total ≡ c
+          → Case (cond (not c) (refuses 7) (cond (heldAt (at i) number) (cond (sameOctets (cellPart (s .cells) (at i) i number) octets) (repeats i) (refuses 8)) (cond (completes (at i) number) (finishes i) (keeps i false (at i)))))
+      case-in true e = case-held (eqb-true (at i .total) total e) (heldAt (at i) number) refl
+      case-in false e = other-total i b (eqb-false (at i .total) total e)
+
+    module _ (lacks : Lacks n (s .rec .slots) key) where
+      not-free : (j : ℕ) → isFree (at j) ≡ false → 0 < at j .rank
+      not-free j e = let ne = eqb-false (at j .rank) 0 e in omega arith
+
+      case-least : ((j : ℕ) → j < n → 0 < at j .rank) → (r : Option ℕ) → Found (isLeastRecent n) (s .rec .slots) r → Case (keeps (slotOr 0 r) true (opened key total))
+      case-least all r (hit i l e f) = displaces i lacks (omega (arith, w .size)) (eqb-true (at i .rank) n e) all
+      case-least all r (miss f) =
+          let (i, l, e) = last-rank n (λ j. at j .rank) (w .ranks) pos all in
+          absurd (eqb-false (at i .rank) n (f i (omega (arith, w .size))) e)
+
+      case-new : (r : Option ℕ) → Found isFree (s .rec .slots) r → Case (stepNew n s key total number octets r)
+      case-new r (hit i l e f) = opens i lacks (omega (arith, w .size)) (eqb-true (at i .rank) 0 e)
+      case-new r (miss f) =
+          case-least (λ j l. not-free j (f j (omega (arith, w .size)))) (find (isLeastRecent n) (s .rec .slots)) (find? (isLeastRecent n) (s .rec .slots))
+
+    case-for : (r : Option ℕ) → Found (bears key) (s .rec .slots) r → Case (stepFor n s key total number octets r)
+    case-for r (hit i l e f) =
+        let (u, q) = both (used (at i)) (sameKey (at i .key) key) e in
+        case-in i (record { inside = omega (arith, w .size); used = pos-taken (at i .rank) u; key = same-key (at i .key) key q }) (eqb (at i .total) total) refl
+    case-for r (miss f) = case-new lacking (find isFree (s .rec .slots)) (find? isFree (s .rec .slots))
+      where
+        lacking : Lacks n (s .rec .slots) key
+        lacking j l u q =
+            clash (bears key (at j)) (rw (ne-eqb (at j .rank) 0 (λ z. omega arith), key-same (at j .key) key q)) (f j (omega (arith, w .size)))
+
+    -- every part comes to one of the cases
+    pub case-of : Case (step n s key total number octets)
+    unfolding step
+    case-of = case-for (find (bears key) (s .rec .slots)) (find? (bears key) (s .rec .slots))

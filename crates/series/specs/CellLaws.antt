@@ -1,0 +1,95 @@
+-- What writing one cell does to what is read of the cells, and what parts join to.
+use Prim.Native.Nat.{ℕ, zero, suc, _+_, _-_, _*_, _≤_, _<_}
+use mathlib.Core.Path.{_≡_, refl, sym, ap, _∙_}
+use mathlib.Core.Bool.{Bool, true, false, cond}
+use mathlib.Core.Logic.{_⊎_, inl, inr, ⊎-elim}
+use mathlib.Core.List.{List, [], _∷_, _++_, append-assoc, append-nil}
+use native.Mathlib.Omega.{arith}
+use lib.ListN.{length, getD, take, drop, length-take, length-drop, length-append, take-append-drop}
+use lib.Dec.{ltb}
+use borrow.Author.Tests.{ltb-true, ltb-false}
+use native.Mathlib.Nat.{eq-or-lt-of-le}
+use lib.Seq.{take-append-le, drop-append-le, take-at, drop-at, take-all, take-take, drop-drop, take-append-add, drop-append-add, length-take-le, take-length}
+use Rattle.octets.specs.Octets.{placed}
+use Rattle.octets.specs.Laws.{length-placed}
+use Rattle.arrival.specs.Message.{mostParts}
+use Rattle.series.specs.declared.Slot.{Slot}
+use Rattle.series.specs.Slots.{lengthAt}
+use Rattle.series.specs.Cells.{cellOctets, cellsSize, cellAt, cellPart, joined}
+
+-- ---- octets put at a place: there they are read, elsewhere what stood there
+front-part : {A : Type 0} (t r : List A) (from size : ℕ) → from + size ≤ length t → take size (drop from (t ++ r)) ≡ take size (drop from t)
+front-part t r from size l =
+    rw (drop-append-le from t r (omega arith), take-append-le size (drop from t) r (simp length-drop (omega arith)))
+
+module _ {A : Type 0} (d : List A) (at : ℕ) (p : List A) (fits : at + length p ≤ length d) where
+  before : length (take at d) ≡ at
+  before = length-take-le at d (omega arith)
+
+  pub read-here : take (length p) (drop at (placed d at p)) ≡ p
+  unfolding placed
+  read-here = rw (drop-at (take at d) (p ++ drop (at + length p) d) at before, take-at p (drop (at + length p) d) (length p) refl)
+
+  pub read-before : (from size : ℕ) → from + size ≤ at → take size (drop from (placed d at p)) ≡ take size (drop from d)
+  unfolding placed
+  read-before from size l =
+      let whole : take at d ++ drop at d ≡ d = take-append-drop at d in
+      front-part (take at d) (p ++ drop (at + length p) d) from size (omega (arith, before))
+      ∙ sym (front-part (take at d) (drop at d) from size (omega (arith, before))) ∙ rw whole
+
+  pub read-behind : (from size : ℕ) → at + length p ≤ from → take size (drop from (placed d at p)) ≡ take size (drop from d)
+  unfolding placed
+  read-behind from size l =
+      let k : ℕ = from - (at + length p) in
+      let head : length (take at d ++ p) ≡ at + length p = simp length-append (omega (arith, before)) in
+      let split : from ≡ length (take at d ++ p) + k = omega (arith, head) in
+      let sum : at + length p + k ≡ from = omega arith in
+      ap (take size) (rw (← append-assoc (take at d) p (drop (at + length p) d), split, drop-append-add, drop-drop, ← split, sum))
+
+-- ---- cells
+-- of a slot only the length of the part is looked at
+pub part-by-length : (cells : List ℕ) (x y : Slot) (s k : ℕ) → lengthAt x k ≡ lengthAt y k → cellPart cells x s k ≡ cellPart cells y s k
+unfolding cellPart
+part-by-length cells x y s k e = rw e
+
+-- a cell is as long as the longest part, and ends within the cells
+pub cell-inside : (n s k : ℕ) → s < n → 1 ≤ k → k ≤ mostParts → cellAt s k + cellOctets ≤ cellsSize n
+cell-inside n s k l low high = omega arith
+
+module _ (n : ℕ) (cells : List ℕ) (size : length cells ≡ cellsSize n) (s k : ℕ) (inside : s < n) (low : 1 ≤ k) (high : k ≤ mostParts)
+    (o : List ℕ) (short : length o ≤ cellOctets) where
+  fits : cellAt s k + length o ≤ length cells
+  fits = omega (arith, cell-inside n s k inside low high)
+
+  pub cells-size : length (placed cells (cellAt s k) o) ≡ cellsSize n
+  cells-size = length-placed cells (cellAt s k) o fits ∙ size
+
+  -- the part that was written is read where the slot says its length
+  pub cell-here : (x : Slot) → lengthAt x k ≡ length o → cellPart (placed cells (cellAt s k) o) x s k ≡ o
+  unfolding cellPart
+  cell-here x e = rw e (read-here cells (cellAt s k) o fits)
+
+  -- every other cell is as it was
+  pub cell-there : (x y : Slot) (j m : ℕ) → 1 ≤ m → m ≤ mostParts → lengthAt x m ≡ lengthAt y m → lengthAt y m ≤ cellOctets
+      → ((j ≡ s → ⊥) ⊎ (m ≡ k → ⊥)) → cellPart (placed cells (cellAt s k) o) x j m ≡ cellPart cells y j m
+  unfolding cellPart
+  cell-there x y j m a b e l ne = rw e (go (ltb (mostParts * j + m) (mostParts * s + k)) refl)
+    where
+      apart : mostParts * j + m ≡ mostParts * s + k → ⊥
+      apart q = ⊎-elim (λ (f : j ≡ s → ⊥). f (omega arith)) (λ (f : m ≡ k → ⊥). f (omega arith)) ne
+
+      go : (t : Bool) → ltb (mostParts * j + m) (mostParts * s + k) ≡ t
+          → take (lengthAt y m) (drop (cellAt j m) (placed cells (cellAt s k) o)) ≡ take (lengthAt y m) (drop (cellAt j m) cells)
+      go true t = read-before cells (cellAt s k) o fits (cellAt j m) (lengthAt y m) (omega (arith, ltb-true (mostParts * j + m) (mostParts * s + k) t))
+      go false t =
+          let q : mostParts * s + k < mostParts * j + m = lt-of-le-of-ne (ltb-false (mostParts * j + m) (mostParts * s + k) t) in
+          read-behind cells (cellAt s k) o fits (cellAt j m) (lengthAt y m) (omega arith)
+        where
+          lt-of-le-of-ne : mostParts * s + k ≤ mostParts * j + m → mostParts * s + k < mostParts * j + m
+          lt-of-le-of-ne h = ⊎-elim (λ (q : mostParts * s + k ≡ mostParts * j + m). absurd (apart (sym q))) (λ (q : mostParts * s + k < mostParts * j + m). q) (eq-or-lt-of-le h)
+
+-- ---- joining
+pub joined-same : (f g : ℕ → List ℕ) (m : ℕ) → ((i : ℕ) → i < m → f (suc i) ≡ g (suc i)) → joined f m ≡ joined g m
+unfolding joined
+joined-same f g zero h = refl
+joined-same f g (suc m) h = rw (joined-same f g m (λ i l. h i (omega arith)), h m (omega arith))

@@ -1,0 +1,50 @@
+-- The cells, where the parts of unfinished series are kept, and the octets that parts join to (01, "Numbers", "Series").
+use Prim.Native.Nat.{ℕ, zero, suc, _+_, _-_, _*_}
+use mathlib.Core.Bool.{Bool, true, false, not, cond, _&&_, _||_}
+use mathlib.Core.List.{List, [], _++_}
+use mathlib.Core.Option.{Option, none, some}
+use lib.ListN.{length, take, drop}
+use lib.Dec.{eqb, leb}
+unfoldable pub use Rattle.octets.specs.Joined.{joined}
+use Rattle.packet.specs.declared.Kind.{Kind}
+use Rattle.packet.specs.Packets.{cpl, wellFormed}
+use Rattle.arrival.specs.Message.{mostParts}
+use Rattle.arrival.specs.Page.{pageContent}
+use Rattle.series.specs.declared.Slot.{Slot}
+use Rattle.series.specs.Slots.{slotAt, lengthAt}
+
+-- "Cells: one lent buffer of 6,432 octets (3 × 16 × 134)"
+abbrev pub cellOctets : ℕ
+cellOctets = 134
+
+abbrev pub cellsSize : ℕ → ℕ
+cellsSize n = n * (mostParts * cellOctets)
+
+-- "part k of slot s (s from 0) begins at (16s + k − 1) × 134"
+abbrev pub cellAt : ℕ → ℕ → ℕ
+cellAt s k = (mostParts * s + k - 1) * cellOctets
+
+-- what the cells hold of part k of slot s, whose entry is x
+unfoldable pub cellPart : List ℕ → Slot → ℕ → ℕ → List ℕ
+cellPart cells x s k = take (lengthAt x k) (drop (cellAt s k) cells)
+
+-- the parts of slot s, where the one that arrives has this number
+abbrev pub partOf : List ℕ → Slot → ℕ → ℕ → List ℕ → ℕ → List ℕ
+partOf cells x s number part k = cond (eqb k number) part (cellPart cells x s k)
+
+unfoldable pub joinedOctets : List ℕ → Slot → ℕ → ℕ → List ℕ → List ℕ
+joinedOctets cells x s number part = joined (partOf cells x s number part) (x .total)
+
+-- ---- the packet in joined octets
+-- "A packet in t pages has 82(t − 1) + 1 to 82t octets; what follows it in the last page is filler and is not handed out."
+abbrev pub pagesAllow : ℕ → ℕ → Bool
+pagesAllow t size = leb (pageContent * (t - 1) + 1) size && leb size (pageContent * t)
+
+abbrev pub packetOctets : Bool → List ℕ → List ℕ
+packetOctets false o = o
+packetOctets true o = take (cpl o + 2) o
+
+-- "If the joined octets in number order are well formed (for pages the first CPL + 2 of them, a length the pages allow)"
+unfoldable pub packetIn : Kind → Bool → ℕ → List ℕ → Option (List ℕ)
+packetIn k paged t o =
+    cond (wellFormed k (packetOctets paged o) && (not paged || pagesAllow t (cpl o + 2))) (some (packetOctets paged o)) none

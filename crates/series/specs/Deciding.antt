@@ -1,0 +1,80 @@
+-- What the functions that take a part cite of one another: the step that is due, where a new series goes, and what acting may rely on.
+use Prim.Native.Nat.{ℕ, _+_, _≤_, _<_}
+use mathlib.Core.Bool.{Bool, true, false, cond, _||_}
+use mathlib.Core.List.{List, []}
+use mathlib.Core.Path.{_≡_}
+use mathlib.Core.Option.{Option, none, some}
+use lib.ListN.{length, getD, drop}
+use lib.Dec.{eqb}
+use Rattle.packet.specs.declared.Kind.{Kind}
+use Rattle.packet.specs.declared.Kind.the-variants.{Command}
+use Rattle.packet.specs.Refusals.{Outcome, numberOf}
+use Rattle.packet.specs.Packets.{mostOctets}
+use Rattle.arrival.specs.declared.Arrival as arrival
+use Rattle.arrival.specs.Arrivals.{Brought}
+use Rattle.arrival.specs.Message.{mostParts}
+use Rattle.arrival.specs.Laws.{Admitted}
+use Rattle.series.specs.declared.Slot.{Slot}
+use Rattle.series.specs.declared.Record.{Record}
+use Rattle.series.specs.declared.take.Opening.{Opening}
+use Rattle.series.specs.declared.take.Step as declared
+use Rattle.series.specs.declared.take.Step.the-variants.{Refuses, Repeats, Keeps, Finishes}
+use Rattle.series.specs.Below.{allBelow}
+use Rattle.series.specs.Slots.{slotCount, slotAt, noKey, isFree, find, leastRecent, freshRecord}
+use Rattle.series.specs.Cells.{cellOctets, cellsSize, joinedOctets}
+use Rattle.series.specs.Handing.{Place, Short}
+use Rattle.series.specs.Taking.{State, After, Answer, refused, packet, state, refuse, taken, unfit, Step, refuses, repeats, keeps, finishes, stepIn}
+
+-- ---- the step
+-- of `completes`: each part up to the total is marked, or has the number
+abbrev pub allWith : List Bool → ℕ → ℕ → Bool
+allWith held total number = allBelow total (λ i. eqb (i + 1) number || getD held i false)
+
+-- what the enum of a decision says, of slot i, which is x
+abbrev pub toldStep : ℕ → Slot → declared.Step → Step
+toldStep i x (Refuses r) = refuses (numberOf r)
+toldStep i x Repeats = repeats i
+toldStep i x Keeps = keeps i false x
+toldStep i x Finishes = finishes i
+
+-- of `stepIn`: it looks at the cells and at x, and at nothing else of the state
+abbrev pub stepAt : List ℕ → ℕ → ℕ → List ℕ → ℕ → Slot → Step
+stepAt cells total number octets = stepIn 0 (state (freshRecord 0 Command) cells []) noKey total number octets
+
+-- of `stepNew`: the slot that a new series takes, and whether it displaces another
+abbrev pub openingIn : ℕ → List Slot → Option ℕ → Opening
+openingIn n xs (some i) = record { slot = i; displaced = false }
+openingIn n xs none = record { slot = leastRecent n xs; displaced = true }
+
+abbrev pub newPlace : ℕ → List Slot → Opening
+newPlace n xs = openingIn n xs (find isFree xs)
+
+-- ---- acting
+-- the answer to a packet of that length, and to none
+abbrev pub answerOf : Option ℕ → Answer
+answerOf none = refused 9
+answerOf (some n) = packet n
+
+-- what writing part `number` to slot i, and bringing the slot to the front, rely on
+pub record Room (r : Record) (i number : ℕ) (octets cells : List ℕ) : Type 0 where
+  pub place : Place i number
+  pub ranks : (j : ℕ) → slotAt (r .slots) j .rank < 255
+  pub short : length octets ≤ cellOctets
+  pub size : length cells ≡ cellsSize slotCount
+
+-- what joining the parts of slot i, which is x, relies on
+pub record Whole (x : Slot) (i number : ℕ) (octets cells output : List ℕ) : Type 0 where
+  pub lengths : Short (x .lengths)
+  pub some : 0 < x .total
+  pub most : x .total ≤ mostParts
+  pub joined : length (joinedOctets cells x i number octets) ≤ length output
+
+-- what taking relies on of an arrival that reading these octets gave
+abbrev pub Fitting : Kind → List ℕ → arrival.Arrival → Type 0
+Fitting k o (arrival.the-variants.Single start) = length (drop start o) ≤ mostOctets
+Fitting k o (arrival.the-variants.Part key total number start) = Admitted k key total number (drop start o)
+Fitting k o (arrival.the-variants.Refused r) = Unit
+
+-- of `takeMessage` and `takePage`: what follows on reading, with the test of 1 before it
+abbrev pub takenWhereFit : ℕ → State → Bool → List ℕ → Outcome Brought → After
+takenWhereFit n s paged o b = cond (unfit n s) (refuse 1 s) (taken n s paged o b)

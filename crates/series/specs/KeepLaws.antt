@@ -1,0 +1,139 @@
+-- Taking keeps a well-formed record well formed, and the cells as long as they were.
+use Prim.Native.Nat.{ℕ, suc, _+_, _-_, _≤_, _<_}
+use mathlib.Core.Path.{_≡_, refl, sym, ap, _∙_, subst}
+use mathlib.Core.Bool.{Bool, true, false, cond, not, _||_}
+use mathlib.Core.List.{List}
+use mathlib.Core.Option.{Option, none, some}
+use native.Mathlib.Omega.{arith}
+use lib.ListN.{length, drop}
+use lib.Dec.{eqb, leb}
+use borrow.Author.Tests.{leb-true, eqb-true, ne-eqb, not-false}
+use Rattle.octets.specs.Tests.{clash, neither}
+use Rattle.packet.specs.declared.Kind.{Kind}
+use Rattle.packet.specs.Packets.{mostOctets}
+use Rattle.packet.specs.Refusals as reading
+use Rattle.arrival.specs.declared.Key.{Key}
+use Rattle.arrival.specs.Arrivals.{Brought, single, part}
+use Rattle.arrival.specs.Message.{mostParts}
+use Rattle.arrival.specs.Keys.{ofPages, room, lengthFits}
+use Rattle.arrival.specs.Laws.{Admitted}
+use Rattle.series.specs.declared.Slot.{Slot}
+use Rattle.series.specs.declared.Record.{Record}
+use Rattle.series.specs.Slots.{slotAt, opened, atRank, withPart, heldAt, toFront, freed, withSlots}
+use Rattle.series.specs.Formed.{slotFormed, recordFormed}
+use Rattle.series.specs.FormedLaws.{Formed, UsedSlot, formed-tells, slot-tells, slot-front, front-formed, free-formed}
+use Rattle.series.specs.PartLaws.{total-bounds, ready-held, ready-opened, part-more}
+use Rattle.series.specs.CaseLaws.{Bears, Lacks, Case, other-total, other-octets, again, last, more, opens, displaces, case-of}
+use Rattle.series.specs.Cells.{cellOctets, cellsSize, joinedOctets, packetIn}
+use Rattle.series.specs.CellLaws.{cells-size}
+use Rattle.series.specs.Taking.{completes, State, After, Step, refuses, repeats, keeps, finishes, handOut, acted, step, takePart, taken, unfit}
+
+-- a part's octets fit its cell
+pub short : (key : Key) (number : ℕ) (size : ℕ) → lengthFits key number size ≡ true → size ≤ cellOctets
+unfolding lengthFits
+short key number size = go (ofPages key) (eqb (key .width) 16)
+  where
+    go : (p w : Bool) → cond p (eqb size 82) (leb size (cond w 133 134 - cond (eqb number 1) 2 0)) ≡ true → size ≤ cellOctets
+    go true w e = omega (arith, eqb-true size 82 e)
+    go false true e = omega (arith, leb-true size (133 - cond (eqb number 1) 2 0) e)
+    go false false e = omega (arith, leb-true size (134 - cond (eqb number 1) 2 0) e)
+
+-- what holds of a record and cells that calls lead to
+pub record Sound (n : ℕ) (r : Record) (cells : List ℕ) : Type 0 where
+  pub formed : Formed n (r .kind) (r .slots)
+  pub size : length cells ≡ cellsSize n
+
+abbrev pub SoundAfter : ℕ → After → Type 0
+SoundAfter n a = Sound n (a .state .rec) (a .state .cells)
+
+-- handing out, or refusing 9, leaves the record that it is given
+pub handed-sound : (n : ℕ) (s : State) (r : Record) (o : Option (List ℕ)) → Sound n r (s .cells) → SoundAfter n (handOut s r o)
+handed-sound n s r none w = w
+handed-sound n s r (some p) w = w
+
+module _ (n : ℕ) (pos : 0 < n) (s : State) (w : Sound n (s .rec) (s .cells)) where
+  abbrev xs : List Slot
+  xs = s .rec .slots
+
+  abbrev k : Kind
+  k = s .rec .kind
+
+  module _ (key : Key) (total number : ℕ) (octets : List ℕ) (adm : Admitted k key total number octets) where
+    low : 1 ≤ number
+    low = adm .low
+
+    sixteen : number ≤ mostParts
+    sixteen = omega (arith, adm .high, total-bounds key total (adm .totalFits))
+
+    -- slot i comes to the front with the part: no other slot has the key
+    kept-sound : (i : ℕ) → i < n → (d : Bool) (x : Slot) → x .key ≡ key → slotFormed k (atRank 1 (withPart x number (length octets))) ≡ true
+        → ((j : ℕ) → j < n → (j ≡ i → ⊥) → 0 < slotAt xs j .rank → slotAt xs j .key ≡ key → ⊥)
+        → SoundAfter n (acted n s key total number octets (keeps i d x))
+    kept-sound i l d x e ok alone = record {
+      formed = front-formed n k xs (w .formed) i l (withPart x number (length octets)) ok (λ j m ne u q. alone j m ne u (q ∙ e));
+      size = cells-size n (s .cells) (w .size) i number l low sixteen octets (short key number (length octets) (adm .lengthFits));
+    }
+
+    opened-formed : slotFormed k (atRank 1 (withPart (opened key total) number (length octets))) ≡ true
+    opened-formed =
+        slot-front k (withPart (opened key total) number (length octets))
+        (part-more k (opened key total) number (length octets) (ready-opened k key total number (adm .keyFormed) (adm .totalFits) low (adm .high)) low (adm .high) (adm .lengthFits))
+
+    module _ (i : ℕ) (b : Bears n xs key i) where
+      was-used : UsedSlot k (slotAt xs i)
+      was-used = slot-tells k (slotAt xs i) (w .formed .slots i (b .inside)) (b .used)
+
+      alone-there : (j : ℕ) → j < n → (j ≡ i → ⊥) → 0 < slotAt xs j .rank → slotAt xs j .key ≡ key → ⊥
+      alone-there j l ne u q = ne (w .formed .keys j i l (b .inside) u (b .used) (q ∙ sym (b .key)))
+
+      more-formed : slotAt xs i .total ≡ total → heldAt (slotAt xs i) number ≡ false → completes (slotAt xs i) number ≡ false
+          → slotFormed k (atRank 1 (withPart (slotAt xs i) number (length octets))) ≡ true
+      more-formed t h c =
+          slot-front k (withPart (slotAt xs i) number (length octets))
+          (part-more k (slotAt xs i) number (length octets) (ready-held k (slotAt xs i) number was-used h c) low (omega (arith, adm .high)) (rw (b .key) (adm .lengthFits)))
+
+    case-sound : (st : Step) → Case n s key total number octets st → SoundAfter n (acted n s key total number octets st)
+    case-sound st (other-total i b t) = w
+    case-sound st (other-octets i b t h c) = w
+    case-sound st (again i b t h c) = record {
+      formed = front-formed n k xs (w .formed) i (b .inside) (slotAt xs i)
+          (slot-front k (slotAt xs i) (was-used i b))
+          (λ j l ne u q. alone-there i b j l ne u (q ∙ b .key));
+      size = w .size;
+    }
+    case-sound st (last i b t h c) =
+        handed-sound n s (withSlots (s .rec) (freed xs i)) (packetIn k (ofPages key) total (joinedOctets (s .cells) (slotAt xs i) i number octets))
+        (record { formed = free-formed n k xs (w .formed) i (b .inside) (b .used); size = w .size })
+    case-sound st (more i b t h c) = kept-sound i (b .inside) false (slotAt xs i) (b .key) (more-formed i b t h c) (alone-there i b)
+    case-sound st (opens i lacks l z) = kept-sound i l false (opened key total) refl opened-formed (λ j m ne u q. lacks j m u q)
+    case-sound st (displaces i lacks l z all) = kept-sound i l true (opened key total) refl opened-formed (λ j m ne u q. lacks j m u q)
+
+    pub part-sound : SoundAfter n (takePart n s key total number octets)
+    unfolding takePart
+    part-sound = case-sound (step n s key total number octets) (case-of n s key total number octets pos (w .formed))
+
+  -- so is all that taking can come to
+  pub taken-sound : (paged : Bool) (o : List ℕ) (b : reading.Outcome Brought)
+      → ((key : Key) (total number start : ℕ) → b ≡ reading.gives (part key total number start) → Admitted k key total number (drop start o))
+      → SoundAfter n (taken n s paged o b)
+  taken-sound paged o (reading.refused m) adm = w
+  taken-sound paged o (reading.gives (single start)) adm = handed-sound n s (s .rec) (packetIn k paged 1 (drop start o)) w
+  taken-sound paged o (reading.gives (part key total number start)) adm = part-sound key total number (drop start o) (adm key total number start refl)
+
+-- ---- the kind of a record never changes
+handed-kind : (s : State) (r : Record) (o : Option (List ℕ)) → r .kind ≡ s .rec .kind → handOut s r o .state .rec .kind ≡ s .rec .kind
+handed-kind s r none e = e
+handed-kind s r (some p) e = e
+
+acted-kind : (n : ℕ) (s : State) (key : Key) (total number : ℕ) (octets : List ℕ) (st : Step) → acted n s key total number octets st .state .rec .kind ≡ s .rec .kind
+acted-kind n s key total number octets (refuses m) = refl
+acted-kind n s key total number octets (repeats i) = refl
+acted-kind n s key total number octets (keeps i d x) = refl
+acted-kind n s key total number octets (finishes i) =
+    handed-kind s (withSlots (s .rec) (freed (s .rec .slots) i)) (packetIn (s .rec .kind) (ofPages key) total (joinedOctets (s .cells) (slotAt (s .rec .slots) i) i number octets)) refl
+
+pub taken-kind : (n : ℕ) (s : State) (paged : Bool) (o : List ℕ) (b : reading.Outcome Brought) → taken n s paged o b .state .rec .kind ≡ s .rec .kind
+unfolding takePart
+taken-kind n s paged o (reading.refused m) = refl
+taken-kind n s paged o (reading.gives (single start)) = handed-kind s (s .rec) (packetIn (s .rec .kind) paged 1 (drop start o)) refl
+taken-kind n s paged o (reading.gives (part key total number start)) = acted-kind n s key total number (drop start o) (step n s key total number (drop start o))

@@ -1,0 +1,80 @@
+// The cells, where the parts of unfinished series lie in the buffer that the caller lends: a part is stored, compared and read again.
+use crate::slots::PARTS;
+use crate::slots::SLOTS;
+ghost use mathlib.Core.Path.{_≡_};
+ghost use Prim.Native.Nat.{_≤_};
+ghost use lib.ListN.{length};
+ghost use Rattle.octets.specs.Octets.{placed, sameOctets};
+ghost use Rattle.series.specs.Slots.{slotCount};
+ghost use Rattle.series.specs.Cells.{cellOctets, cellsSize, cellAt};
+ghost use Rattle.series.specs.Handing.{Place, cellStart, Short, pieceOf};
+
+// How many octets a cell has, and all of them together.
+const CELL_OCTETS: usize = 134;
+
+pub(crate) const CELLS: usize = SLOTS * PARTS * CELL_OCTETS;
+
+// Where part k of slot s begins.
+pub(crate) fn cell_at(s: usize, k: usize) -> usize
+    requires { ⌜ Place s k ⌝ }
+    ensures { λ r. ⌜ r ≡ cellAt s k ⌝ }
+{
+    (PARTS * s + k - 1) * CELL_OCTETS
+}
+
+// The first n octets of a cell, where they lie.
+pub(crate) fn cell<'a>(cells: &'a [u8], s: usize, k: usize, n: usize) -> &'a [u8]
+    requires { ⌜ Place s k ⌝ }
+    requires { ⌜ (n ≤ cellOctets) × (length (now cells) ≡ cellsSize slotCount) ⌝ }
+    ensures { λ r. ⌜ now r ≡ cellStart (now (cells .entry)) s k n ⌝ }
+{
+    let from = cell_at(s, k);
+    let end = from + n;
+    &cells[from..end]
+}
+
+// Writes a part at the start of its cell, and nothing else.
+pub(crate) fn store(cells: &mut [u8], s: usize, k: usize, part: &[u8])
+    requires { ⌜ Place s k ⌝ }
+    requires { ⌜ (length (now part) ≤ cellOctets) × (length (now cells) ≡ cellsSize slotCount) ⌝ }
+    ensures { λ _. ⌜ now (cells .exit) ≡ placed (now (cells .entry)) (cellAt s k) (now (part .entry)) ⌝ }
+{
+    octets::put(part, cells, cell_at(s, k));
+}
+
+// Whether the first n octets of a cell are the part: as many, and the same.
+pub(crate) fn same_part(cells: &[u8], s: usize, k: usize, n: u8, part: &[u8]) -> bool
+    requires { ⌜ Place s k ⌝ }
+    requires { ⌜ (n ≤ cellOctets) × (length (now cells) ≡ cellsSize slotCount) ⌝ }
+    ensures { λ r. ⌜ r ≡ sameOctets (cellStart (now (cells .entry)) s k n) (now (part .entry)) ⌝ }
+{
+    octets::same(cell(cells, s, k, n as usize), part)
+}
+
+// An octet as a length.
+pub(crate) fn wide(x: u8) -> usize
+    ensures { λ r. ⌜ r ≡ x ⌝ }
+{
+    x as usize
+}
+
+// Part k of a series, where it lies: the part that arrives, where k is its number, and otherwise the one that the cells hold.
+pub(crate) fn piece<'a>(
+    cells: &'a [u8],
+    lengths: &[u8; 16],
+    s: usize,
+    k: usize,
+    number: usize,
+    part: &'a [u8],
+) -> &'a [u8]
+    requires { ⌜ Place s k ⌝ }
+    requires { ⌜ Short (now lengths) ⌝ }
+    requires { ⌜ length (now cells) ≡ cellsSize slotCount ⌝ }
+    ensures { λ r. ⌜ now r ≡ pieceOf (now (cells .entry)) (now (lengths .entry)) s number (now (part .entry)) k ⌝ }
+{
+    if k == number {
+        return part;
+    }
+    let i = k - 1;
+    cell(cells, s, k, wide(lengths[i]))
+}
