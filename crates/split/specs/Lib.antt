@@ -1,0 +1,4 @@
+pub mod Splitting
+pub mod Within
+pub mod Laws
+pub mod ReadBack
