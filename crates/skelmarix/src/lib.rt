@@ -1,0 +1,72 @@
+// Skelmarix: secured packets over short messages and cell broadcast pages. What a user names: every public type and call of the crates below,
+// and nothing of its own.
+
+// Octets: numbers as pairs, a total put, the comparison.
+pub use octets::Pair;
+pub use octets::number_of;
+pub use octets::pair_of;
+pub use octets::put;
+pub use octets::same;
+
+// Packets: reading, showing, building, the octets of a checksum.
+pub use packet::Clear;
+pub use packet::Cntr;
+pub use packet::Command;
+pub use packet::CommandBody;
+pub use packet::Kind;
+pub use packet::Opaque;
+pub use packet::ParsedCommand;
+pub use packet::ParsedResponse;
+pub use packet::PlainCommand;
+pub use packet::PlainResponse;
+pub use packet::Refusal;
+pub use packet::Response;
+pub use packet::ResponseBody;
+pub use packet::Spi;
+pub use packet::Tar;
+pub use packet::Written;
+pub use packet::build::build_ciphered_command;
+pub use packet::build::build_ciphered_response;
+pub use packet::build::build_command;
+pub use packet::build::build_response;
+pub use packet::checksum::command_checksum;
+pub use packet::checksum::response_checksum;
+pub use packet::read::formed;
+pub use packet::read::parse_command;
+pub use packet::read::parse_response;
+pub use packet::read::well_formed;
+pub use packet::show::command_check;
+pub use packet::show::command_data;
+pub use packet::show::command_opaque;
+pub use packet::show::response_check;
+pub use packet::show::response_data;
+pub use packet::show::response_opaque;
+
+// Arrivals: what one message or page brings.
+pub use arrival::Arrival;
+pub use arrival::Concatenation;
+pub use arrival::Cursor;
+pub use arrival::Element;
+pub use arrival::Key;
+pub use arrival::MessageIdentifier;
+pub use arrival::Seen;
+pub use arrival::SerialNumber;
+pub use arrival::Walked;
+pub use arrival::message::read_message;
+pub use arrival::own_octets;
+pub use arrival::page::read_page;
+
+// Series: the record, and taking what arrives.
+pub use series::Answer;
+pub use series::Record;
+pub use series::Slot;
+pub use series::Taken;
+pub use series::formed::record_formed;
+pub use series::slots::fresh;
+pub use series::take::take_message;
+pub use series::take::take_page;
+
+// Splitting: one part a call.
+pub use split::WrittenPart;
+pub use split::write_message;
+pub use split::write_page;
