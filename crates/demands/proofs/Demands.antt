@@ -1,0 +1,42 @@
+-- The three demands hold: each theorem at three slots.
+use native.Mathlib.Omega.{arith}
+use Prim.Native.Nat.{_<_}
+use Rattle.series.specs.Slots.{slotCount}
+use Rattle.demands.specs.Demands.{Demand1, Demand2, Demand3}
+use Rattle.demands.proofs.Calls as calls
+use Rattle.demands.proofs.Wake as wake
+use Rattle.demands.proofs.Refusing as refusing
+use Rattle.demands.proofs.RoundTrips as trips
+use Rattle.demands.proofs.SplitTaken as split
+
+some : 0 < slotCount
+some = omega arith
+
+pub demand-1 : Demand1
+demand-1 = record {
+  taking = refusing.taking-refused slotCount some;
+  parsing = refusing.parsing-refused;
+  building = refusing.building-refused;
+  checksum-octets = refusing.checksum-refused;
+  writing-user-data = refusing.writing-refused;
+  writing-a-page = refusing.page-refused;
+}
+
+pub demand-2 : Demand2
+demand-2 = record {
+  build-then-read = trips.build-then-read;
+  command-tells = trips.command-tells;
+  read-then-build = trips.read-then-build;
+  split-messages = trips.split-messages;
+  split-pages = trips.split-pages;
+  messages-arrive = split.messages-arrive slotCount some;
+  pages-arrive = split.pages-arrive slotCount some;
+}
+
+pub demand-3 : Demand3
+demand-3 = record {
+  wake-window = wake.wake-window slotCount some;
+  packet-comes = wake.packet-comes slotCount some;
+  always-formed = λ k. calls.always-formed slotCount some k (wake.admits k);
+  no-key-twice = λ k. calls.no-key-twice slotCount some k (wake.admits k);
+}

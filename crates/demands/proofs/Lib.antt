@@ -1,0 +1,12 @@
+pub mod Examples
+pub mod Lists
+pub mod Calls
+pub mod Track
+pub mod Window
+pub mod Wake
+pub mod Refusing
+pub mod Tightness
+pub mod Reached
+pub mod RoundTrips
+pub mod SplitTaken
+pub mod Demands

@@ -1,0 +1,145 @@
+-- Numbers and keys put into lists, and that n different keys do not fit into a list that is shorter.
+use Prim.Native.Nat.{ℕ, zero, suc, _+_, _-_, _≤_, _<_}
+use mathlib.Core.Path.{_≡_, refl, sym, ap, _∙_, subst}
+use mathlib.Core.Bool.{Bool, true, false, cond, _||_}
+use mathlib.Core.List.{List, [], _∷_, _++_, append-assoc, append-nil}
+use native.Mathlib.Omega.{arith}
+use native.Mathlib.Numerals.{add-one}
+use lib.ListN.{length, getD, take}
+use lib.Seq.{take-suc, take-length}
+use lib.Dec.{eqb}
+use borrow.Author.Tests.{eq-eqb}
+use Rattle.octets.specs.Tests.{clash, Same, same, other, same?}
+use Rattle.arrival.specs.declared.Key.{Key}
+use Rattle.series.specs.Below.{allBelow}
+use Rattle.series.specs.BelowLaws.{all-at, all-same}
+use Rattle.series.specs.Slots.{sameKey}
+use Rattle.series.specs.FrontLaws.{same-key, key-same}
+use Rattle.series.specs.Cells.{joined}
+use Rattle.demands.specs.Wake.{concat, elem, elemKey, add, addKey, complete}
+
+-- ---- two keys, the same or not
+pub data Alike (a b : Key) : Type 0 where
+  alike : sameKey a b ≡ true → a ≡ b → Alike a b
+  unlike : sameKey a b ≡ false → (a ≡ b → ⊥) → Alike a b
+
+pub alike? : (a b : Key) → Alike a b
+alike? a b = go (sameKey a b) refl
+  where
+    go : (t : Bool) → sameKey a b ≡ t → Alike a b
+    go true e = alike e (same-key a b e)
+    go false e = unlike e (λ p. clash (sameKey a b) (key-same a b p) e)
+
+-- ---- numbers that have come
+pub elem-add : (k j : ℕ) (l : List ℕ) → elem j (add k l) ≡ eqb j k || elem j l
+elem-add k j l = go (elem k l) refl (same? j k)
+  where
+    go : (b : Bool) → elem k l ≡ b → Same j k → elem j (cond b l (k ∷ l)) ≡ eqb j k || elem j l
+    go true e (same p q) = rw (p, q) e
+    go true e (other p q) = rw p
+    go false e s = refl
+
+pub add-old : (k : ℕ) (l : List ℕ) → elem k l ≡ true → add k l ≡ l
+add-old k l e = rw e
+
+pub add-not-nil : (k : ℕ) (l : List ℕ) → add k l ≡ [] → ⊥
+add-not-nil k l e = clash (elem k (add k l)) (elem-add k k l ∙ rw (eq-eqb k k refl)) (ap (elem k) e)
+
+-- with number k too, none is missing
+pub complete-add : (t k : ℕ) (got : List ℕ) → complete t (add k got) ≡ allBelow t (λ i. eqb (i + 1) k || elem (i + 1) got)
+complete-add t k got = all-same t (λ i. elem (i + 1) (add k got)) (λ i. eqb (i + 1) k || elem (i + 1) got) (λ i l. elem-add k (i + 1) got)
+
+-- one number alone is not all of two or more
+pub one-short : (t k : ℕ) → 2 ≤ t → complete t (add k []) ≡ false
+one-short t k two = go (complete t (add k [])) refl
+  where
+    go : (b : Bool) → complete t (add k []) ≡ b → b ≡ false
+    go false e = refl
+    go true e =
+        let a : elem 1 (k ∷ []) ≡ true = all-at t (λ i. elem (i + 1) (k ∷ [])) e 0 (omega arith) in
+        let b : elem 2 (k ∷ []) ≡ true = all-at t (λ i. elem (i + 1) (k ∷ [])) e 1 (omega arith) in
+        let p : 1 ≡ k = only 1 a in
+        let q : 2 ≡ k = only 2 b in
+        absurd (omega arith)
+      where
+        only : (j : ℕ) → elem j (k ∷ []) ≡ true → j ≡ k
+        only j h = is (same? j k)
+          where
+            is : Same j k → j ≡ k
+            is (same f g) = g
+            is (other f g) = absurd (clash false (simp f at h) refl)
+
+-- ---- keys
+pub elem-key-add : (X Y : Key) (l : List Key) → elemKey Y l ≡ true → elemKey Y (addKey X l) ≡ true
+elem-key-add X Y l h = go (elemKey X l) (sameKey Y X)
+  where
+    go : (b c : Bool) → elemKey Y (cond b l (X ∷ l)) ≡ true
+    go true c = h
+    go false c = later (sameKey Y X)
+      where
+        later : (c : Bool) → c || elemKey Y l ≡ true
+        later true = refl
+        later false = h
+
+pub elem-key-self : (X : Key) (l : List Key) → elemKey X (addKey X l) ≡ true
+elem-key-self X l = go (elemKey X l) refl
+  where
+    go : (b : Bool) → elemKey X l ≡ b → elemKey X (cond b l (X ∷ l)) ≡ true
+    go true e = e
+    go false e = rw (key-same X X refl)
+
+pub length-add-key : (X : Key) (l : List Key) → length l ≤ length (addKey X l)
+length-add-key X l = go (elemKey X l)
+  where
+    go : (b : Bool) → length l ≤ length (cond b l (X ∷ l))
+    go true = omega arith
+    go false = omega arith
+
+-- the first X taken out
+abbrev remove : Key → List Key → List Key
+remove X [] = []
+remove X (Y ∷ l) = cond (sameKey X Y) l (Y ∷ remove X l)
+
+elem-remove : (X Y : Key) (l : List Key) → (Y ≡ X → ⊥) → elemKey Y l ≡ true → elemKey Y (remove X l) ≡ true
+elem-remove X Y [] ne h = h
+elem-remove X Y (Z ∷ l) ne h = go (elem-remove X Y l ne) (alike? X Z) (alike? Y Z)
+  where
+    go : (elemKey Y l ≡ true → elemKey Y (remove X l) ≡ true) → Alike X Z → Alike Y Z → elemKey Y (remove X (Z ∷ l)) ≡ true
+    go ih (alike e p) (alike f q) = absurd (ne (q ∙ sym p))
+    go ih (alike e p) (unlike f q) = simp e (simp f at h)
+    go ih (unlike e p) (alike f q) = simp (e, f)
+    go ih (unlike e p) (unlike f q) = simp (e, f) (ih (simp f at h))
+
+length-remove : (X : Key) (l : List Key) → elemKey X l ≡ true → suc (length (remove X l)) ≡ length l
+length-remove X [] h = absurd (clash false h refl)
+length-remove X (Z ∷ l) h = go (length-remove X l) (alike? X Z)
+  where
+    go : (elemKey X l ≡ true → suc (length (remove X l)) ≡ length l) → Alike X Z → suc (length (remove X (Z ∷ l))) ≡ suc (length l)
+    go ih (alike e p) = simp e
+    go ih (unlike e p) = simp e (ap suc (ih (simp e at h)))
+
+-- n different keys that are all in a list: it has n at least
+pub pigeon : (n : ℕ) (f : ℕ → Key) (l : List Key) → ((j : ℕ) → j < n → elemKey (f j) l ≡ true)
+    → ((i j : ℕ) → i < n → j < n → f i ≡ f j → i ≡ j) → n ≤ length l
+pigeon zero f l all apart = omega arith
+pigeon (suc n) f l all apart =
+    let fewer : n ≤ length (remove (f n) l) =
+    pigeon n f (remove (f n) l) (λ j h. elem-remove (f n) (f j) l (λ e. differ j h e) (all j (omega arith))) (λ i j h g. apart i j (omega arith) (omega arith)) in
+    omega (arith, length-remove (f n) l (all n (omega arith)))
+  where
+    differ : (j : ℕ) → j < n → f j ≡ f n → ⊥
+    differ j h e = let q : j ≡ n = apart j n (omega arith) (omega arith) e in omega arith
+
+-- ---- parts that join to the packet
+pub concat-last : (ps : List (List ℕ)) (p : List ℕ) → concat (ps ++ (p ∷ [])) ≡ concat ps ++ p
+concat-last [] p = append-nil p
+concat-last (q ∷ ps) p = rw (concat-last ps p, append-assoc)
+
+joined-first : (ps : List (List ℕ)) (f : ℕ → List ℕ) (m : ℕ) → m ≤ length ps → ((q : ℕ) → q < length ps → f (suc q) ≡ getD ps q []) → joined f m ≡ concat (take m ps)
+unfolding joined
+joined-first ps f zero l h = refl
+joined-first ps f (suc m) l h =
+    rw (joined-first ps f m (omega arith) h, h m (omega arith), take-suc ps m [] (omega arith)) (sym (concat-last (take m ps) (getD ps m [])))
+
+pub joined-parts : (ps : List (List ℕ)) (f : ℕ → List ℕ) → ((q : ℕ) → q < length ps → f (suc q) ≡ getD ps q []) → joined f (length ps) ≡ concat ps
+joined-parts ps f h = joined-first ps f (length ps) (omega arith) h ∙ ap concat (take-length ps)

@@ -1,0 +1,128 @@
+-- A refused call leaves everything as it was, but for the one exception: by cases of what a call comes to.
+use Prim.Native.Nat.{ℕ, _<_}
+use mathlib.Core.Path.{_≡_, refl, sym, ap, _∙_, subst}
+use mathlib.Core.Bool.{Bool, true, false, not, cond, _||_}
+use mathlib.Core.List.{List, []}
+use mathlib.Core.Option.{Option, none, some}
+use native.Mathlib.Omega.{arith}
+use lib.ListN.{length, drop}
+use lib.Dec.{eqb, ltb}
+use borrow.Author.Tests.{not-false}
+use Rattle.octets.specs.Tests.{neither}
+use Rattle.packet.specs.declared.Kind.{Kind}
+use Rattle.packet.specs.Refusals as outcome
+use Rattle.packet.specs.Refusals.{refuse_when_otherwise_}
+use Rattle.packet.specs.Packets.{Fields, wellFormed, mostOctets, mostChecksum, into, building, built, checksumOctets, checksummed, parsing, readable, shown, securedOf, checkOf, opaqueOf, fieldsOf, measured, shownData, shownCheck, shownOpaque}
+use Rattle.arrival.specs.declared.Key.{Key}
+use Rattle.arrival.specs.Arrivals.{Brought, single, part}
+use Rattle.arrival.specs.Keys.{ofPages}
+use Rattle.series.specs.declared.Record.{Record}
+use Rattle.series.specs.Slots.{slotAt, freed, withSlots}
+use Rattle.series.specs.Formed.{recordFormed}
+use Rattle.series.specs.FormedLaws.{Formed, formed-tells}
+use Rattle.series.specs.Cells.{cellsSize, joinedOctets, packetIn}
+use Rattle.series.specs.Taking.{State, After, Answer, kept, heldAlready, packet, refused, Step, handOut, acted, step, takePart, taken, unfit, refuse}
+use Rattle.series.specs.CaseLaws.{Case, other-total, other-octets, again, last, more, opens, displaces, case-of}
+use Rattle.series.specs.Calls.{Input, octetsOf, read, take}
+use Rattle.split.specs.Splitting as split
+use Rattle.demands.specs.Refusing.{Leaves, unaltered, dropped, TakingRefused, BuildingRefused, ChecksumRefused, WritingRefused, PageRefused, NothingShown, ParsingRefused}
+use Rattle.demands.proofs.Calls.{isPage, taking-any}
+
+-- ---- taking
+module _ (n : ℕ) (pos : 0 < n) (s : State) (i : Input) (number : ℕ) where
+  -- an outcome that is refused leaves what it may
+  abbrev Left : After → Type 0
+  Left a = a .answer ≡ refused number → Leaves n s i number (a .state)
+
+  not-kept : {j : ℕ} {d : Bool} {A : Type 0} → kept j d ≡ refused number → A
+  not-kept e = let z : _≡_ {A = ℕ} 0 1 = cc in absurd (omega arith)
+
+  not-held : {j : ℕ} {A : Type 0} → heldAlready j ≡ refused number → A
+  not-held e = let z : _≡_ {A = ℕ} 0 1 = cc in absurd (omega arith)
+
+  not-handed : {j : ℕ} {A : Type 0} → packet j ≡ refused number → A
+  not-handed e = let z : _≡_ {A = ℕ} 0 1 = cc in absurd (omega arith)
+
+  single-left : (o : Option (List ℕ)) → Left (handOut s (s .rec) o)
+  single-left none e = unaltered
+  single-left (some p) e = not-handed e
+
+  part-left : (key : Key) (total which start : ℕ) → read (s .rec .kind) i ≡ outcome.gives (part key total which start)
+      → (st : Step) → Case n s key total which (drop start (octetsOf i)) st → Left (acted n s key total which (drop start (octetsOf i)) st)
+  part-left key total which start r st (other-total j b t) e = unaltered
+  part-left key total which start r st (other-octets j b t h c) e = unaltered
+  part-left key total which start r st (again j b t h c) e = not-held e
+  part-left key total which start r st (last j b t h c) e =
+      go (packetIn (s .rec .kind) (ofPages key) total (joinedOctets (s .cells) (slotAt (s .rec .slots) j) j which (drop start (octetsOf i)))) e
+    where
+      go : (o : Option (List ℕ)) → Left (handOut s (withSlots (s .rec) (freed (s .rec .slots) j)) o)
+      go none e = dropped (cc) key total which start j r b c
+      go (some p) e = not-handed e
+  part-left key total which start r st (more j b t h c) e = not-kept e
+  part-left key total which start r st (opens j l k z) e = not-kept e
+  part-left key total which start r st (displaces j l k z all) e = not-kept e
+
+  read-left : Formed n (s .rec .kind) (s .rec .slots) → (r : outcome.Outcome Brought) → read (s .rec .kind) i ≡ r → Left (taken n s (isPage i) (octetsOf i) r)
+  unfolding takePart
+  read-left w (outcome.refused m) r e = unaltered
+  read-left w (outcome.gives (single start)) r e = single-left (packetIn (s .rec .kind) (isPage i) 1 (drop start (octetsOf i))) e
+  read-left w (outcome.gives (part key total which start)) r e =
+      part-left key total which start r (step n s key total which (drop start (octetsOf i))) (case-of n s key total which (drop start (octetsOf i)) pos w) e
+
+  call-left : Left (take n s i)
+  call-left = subst Left (sym (taking-any n s i)) (go (unfit n s) refl)
+    where
+      go : (b : Bool) → unfit n s ≡ b → Left (cond b ((refuse) 1 s) (taken n s (isPage i) (octetsOf i) (read (s .rec .kind) i)))
+      go true u e = unaltered
+      go false u e =
+          let f = neither (not (eqb (length (s .cells)) (cellsSize n)) || not (eqb (length (s .output)) mostOctets)) (not (recordFormed n (s .rec))) u .1 in
+          read-left (formed-tells n (s .rec .kind) (s .rec .slots) (not-false (recordFormed n (s .rec)) f)) (read (s .rec .kind) i) refl e
+
+pub taking-refused : (n : ℕ) → 0 < n → TakingRefused n
+taking-refused n pos s i number = call-left n pos s i number
+
+-- ---- writing to a lent buffer
+written-left : (o : outcome.Outcome (List ℕ)) (buffer : List ℕ) (number : ℕ) → outcome.writes o buffer .0 ≡ outcome.refused number → outcome.writes o buffer .1 ≡ buffer
+written-left (outcome.refused m) buffer number e = refl
+written-left (outcome.gives o) buffer number e = let z : _≡_ {A = ℕ} 0 1 = cc in absurd (omega arith)
+
+into-left : (size : ℕ) (o : outcome.Outcome (List ℕ)) (buffer : List ℕ) (number : ℕ) → into size o buffer .0 ≡ outcome.refused number → into size o buffer .1 ≡ buffer
+into-left size o buffer = written-left (refuse 1 when not (eqb (length buffer) size) otherwise o) buffer
+
+pub building-refused : BuildingRefused
+unfolding built
+building-refused k x buffer = into-left mostOctets (building k x) buffer
+
+pub checksum-refused : ChecksumRefused
+unfolding checksummed
+checksum-refused k c p buffer = into-left mostChecksum (checksumOctets k c p) buffer
+
+piece-left : (o : outcome.Outcome split.Piece) (buffer : List ℕ) (number : ℕ) → split.writes o buffer .answer ≡ outcome.refused number → split.writes o buffer .buffer ≡ buffer
+piece-left (outcome.refused m) buffer number e = refl
+piece-left (outcome.gives x) buffer number e = let z : _≡_ {A = ℕ} 0 1 = cc in absurd (omega arith)
+
+pub writing-refused : WritingRefused
+unfolding split.writeMessage
+writing-refused k width reference p which buffer = piece-left (split.writing k width reference p which buffer) buffer
+
+pub page-refused : PageRefused
+unfolding split.writePage
+page-refused serial identifier dcs p which buffer = piece-left (split.writingPage serial identifier dcs p which buffer) buffer
+
+-- ---- parsing
+nothing : {A : Type 0} (number : ℕ) (x : A) (y : List ℕ) (a b : Bool) → (refuse 9 when a otherwise refuse 12 when b otherwise outcome.gives x) ≡ outcome.refused number
+    → shown (refuse 9 when a otherwise refuse 12 when b otherwise outcome.gives y) ≡ []
+nothing number x y true b e = refl
+nothing number x y false true e = refl
+nothing number x y false false e = let z : _≡_ {A = ℕ} 0 1 = cc in absurd (omega arith)
+
+pub parsing-refused : ParsingRefused
+unfolding parsing shownData shownCheck shownOpaque
+parsing-refused k c p number e = record {
+  secured = none (securedOf (fieldsOf k c p));
+  check = none (checkOf (fieldsOf k c p));
+  opaque = none (opaqueOf (fieldsOf k c p));
+}
+  where
+    none : (y : List ℕ) → shown (readable k p (outcome.gives y)) ≡ []
+    none y = nothing number (measured (fieldsOf k c p)) y (not (wellFormed k p)) (ltb mostOctets (length p)) e

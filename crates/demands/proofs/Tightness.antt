@@ -1,0 +1,175 @@
+-- Each promise is tight: the outcome can be read back from what is told of it.
+use Prim.Native.Nat.{ℕ, _+_, _-_}
+use mathlib.Core.Path.{_≡_, refl, sym, ap, _∙_}
+use mathlib.Core.List.{List, [], _∷_}
+use lib.ListN.{getD}
+use Rattle.packet.specs.declared.Refusal.{Refusal}
+use Rattle.packet.specs.declared.Refusal.the-variants.{BufferOrRecord, Size, Header, Element, Identifier, Total, OtherTotal, OtherOctets, NotWellFormed, Cipher, HeaderLength, PacketLength, Reference, Number}
+use Rattle.packet.specs.declared.Tar.{Tar}
+use Rattle.packet.specs.declared.Cntr.{Cntr}
+use Rattle.packet.specs.declared.Clear.{Clear}
+use Rattle.packet.specs.declared.Command.{Command}
+use Rattle.packet.specs.declared.Response.{Response}
+use Rattle.packet.specs.declared.CommandBody.{CommandBody}
+use Rattle.packet.specs.declared.CommandBody.the-variants as command
+use Rattle.packet.specs.declared.ResponseBody.{ResponseBody}
+use Rattle.packet.specs.declared.ResponseBody.the-variants as response
+use Rattle.packet.specs.declared.ParsedCommand.{ParsedCommand}
+use Rattle.packet.specs.declared.ParsedCommand.the-variants as parsedCommand
+use Rattle.packet.specs.declared.ParsedResponse.{ParsedResponse}
+use Rattle.packet.specs.declared.ParsedResponse.the-variants as parsedResponse
+use Rattle.packet.specs.declared.Written.{Written}
+use Rattle.packet.specs.declared.Written.the-variants as written
+use Rattle.packet.specs.Refusals.{Outcome, refused, gives, Lent, numberOf, toldWritten}
+use Rattle.packet.specs.Packets.{Parsed, plainParsed, cipheredParsed}
+use Rattle.packet.specs.Told.{toldCommand, toldResponse}
+use Rattle.arrival.specs.declared.Arrival.{Arrival}
+use Rattle.arrival.specs.declared.Arrival.the-variants as arrival
+use Rattle.arrival.specs.Arrivals.{Brought, single, part, toldArrival}
+use Rattle.series.specs.declared.Answer.{Answer}
+use Rattle.series.specs.declared.Answer.the-variants as answer
+use Rattle.series.specs.declared.Taken.{Taken}
+use Rattle.series.specs.Taking as taking
+use Rattle.split.specs.declared.WrittenPart.{WrittenPart}
+use Rattle.split.specs.declared.WrittenPart.the-variants as writtenPart
+use Rattle.split.specs.Splitting as split
+use Rattle.demands.specs.Tightness.{Tight, toldBuilt, toldPart, toldTaken, Promises, PlainPromises}
+
+-- what can be read back is told of one outcome only
+tight : {O P : Type 0} (told : O → P) (back : P → O) → ((r : O) → back (told r) ≡ r) → Tight told
+tight told back recovers rule r₁ r₂ e₁ e₂ = sym (recovers r₁) ∙ ap back (e₁ ∙ sym e₂) ∙ recovers r₂
+
+-- ---- refusals
+refusalOf : ℕ → Refusal
+refusalOf n =
+    getD
+    (BufferOrRecord ∷ Size ∷ Header ∷ Element ∷ Identifier ∷ Total ∷ OtherTotal ∷ OtherOctets ∷ NotWellFormed ∷ Cipher ∷ HeaderLength ∷ PacketLength ∷ Reference ∷ Number ∷ [])
+    (n - 1) BufferOrRecord
+
+refusal-back : (r : Refusal) → refusalOf (numberOf r) ≡ r
+unfolding refusalOf
+refusal-back BufferOrRecord = refl
+refusal-back Size = refl
+refusal-back Header = refl
+refusal-back Element = refl
+refusal-back Identifier = refl
+refusal-back Total = refl
+refusal-back OtherTotal = refl
+refusal-back OtherOctets = refl
+refusal-back NotWellFormed = refl
+refusal-back Cipher = refl
+refusal-back HeaderLength = refl
+refusal-back PacketLength = refl
+refusal-back Reference = refl
+refusal-back Number = refl
+
+-- ---- parsed packets
+tarAt : List ℕ → ℕ → Tar
+tarAt f i = (getD f i 0, getD f (i + 1) 0, getD f (i + 2) 0)
+
+cntrAt : List ℕ → ℕ → Cntr
+cntrAt f i = (getD f i 0, getD f (i + 1) 0, getD f (i + 2) 0, getD f (i + 3) 0, getD f (i + 4) 0)
+
+clearOf : List ℕ → Clear
+clearOf f = record { spi = (getD f 0 0, getD f 1 0); kic = getD f 2 0; kid = getD f 3 0; tar = tarAt f 4 }
+
+commandOf : Outcome Parsed → ParsedCommand
+commandOf (refused n) = parsedCommand.Refused (refusalOf n)
+commandOf (gives (plainParsed f c d)) =
+    parsedCommand.Fields (record { clear = clearOf f; body = command.Plain (record { cntr = cntrAt f 7; pcntr = getD f 12 0; check = c; «data» = d }) })
+commandOf (gives (cipheredParsed f h o)) =
+    parsedCommand.Fields (record { clear = clearOf f; body = command.Ciphered (record { header = h; octets = o }) })
+
+command-body : (x : Clear) (b : CommandBody) → commandOf (toldCommand (parsedCommand.Fields (record { clear = x; body = b }))) ≡ parsedCommand.Fields (record { clear = x; body = b })
+unfolding commandOf clearOf tarAt cntrAt
+command-body x (command.Plain b) = refl
+command-body x (command.Ciphered b) = refl
+
+command-back : (r : ParsedCommand) → commandOf (toldCommand r) ≡ r
+unfolding commandOf
+command-back (parsedCommand.Fields c) = command-body (c .clear) (c .body)
+command-back (parsedCommand.Refused r) = ap parsedCommand.Refused (refusal-back r)
+
+responseOf : Outcome Parsed → ParsedResponse
+responseOf (refused n) = parsedResponse.Refused (refusalOf n)
+responseOf (gives (plainParsed f c d)) =
+    parsedResponse.Fields (record { tar = tarAt f 0; body = response.Plain (record { cntr = cntrAt f 3; pcntr = getD f 8 0; status = getD f 9 0; check = c; «data» = d }) })
+responseOf (gives (cipheredParsed f h o)) = parsedResponse.Fields (record { tar = tarAt f 0; body = response.Ciphered (record { header = h; octets = o }) })
+
+response-body : (t : Tar) (b : ResponseBody) → responseOf (toldResponse (parsedResponse.Fields (record { tar = t; body = b }))) ≡ parsedResponse.Fields (record { tar = t; body = b })
+unfolding responseOf tarAt cntrAt
+response-body t (response.Plain b) = refl
+response-body t (response.Ciphered b) = refl
+
+response-back : (r : ParsedResponse) → responseOf (toldResponse r) ≡ r
+unfolding responseOf
+response-back (parsedResponse.Fields c) = response-body (c .tar) (c .body)
+response-back (parsedResponse.Refused r) = ap parsedResponse.Refused (refusal-back r)
+
+-- ---- what writing leaves
+writtenOf : Lent → Written × List ℕ
+writtenOf (refused n, b) = (written.Refused (refusalOf n), b)
+writtenOf (gives m, b) = (written.Octets m, b)
+
+written-back : (r : Written × List ℕ) → writtenOf (toldBuilt r) ≡ r
+unfolding writtenOf
+written-back (written.Octets m, b) = refl
+written-back (written.Refused r, b) = ap (λ (x : Refusal). (written.Refused x, b)) (refusal-back r)
+
+partOf : split.Written → WrittenPart × List ℕ
+partOf x = go (x .answer) (x .buffer)
+  where
+    go : Outcome split.Told → List ℕ → WrittenPart × List ℕ
+    go (refused n) b = (writtenPart.Refused (refusalOf n), b)
+    go (gives t) b = (writtenPart.Part (t .total) (t .size), b)
+
+part-back : (r : WrittenPart × List ℕ) → partOf (toldPart r) ≡ r
+unfolding partOf
+part-back (writtenPart.Part t m, b) = refl
+part-back (writtenPart.Refused r, b) = ap (λ (x : Refusal). (writtenPart.Refused x, b)) (refusal-back r)
+
+-- ---- what reading and taking leave
+arrivalOf : Outcome Brought → Arrival
+arrivalOf (refused n) = arrival.Refused (refusalOf n)
+arrivalOf (gives (single s)) = arrival.Single s
+arrivalOf (gives (part k t m s)) = arrival.Part k t m s
+
+arrival-back : (r : Arrival) → arrivalOf (toldArrival r) ≡ r
+unfolding arrivalOf
+arrival-back (arrival.Single s) = refl
+arrival-back (arrival.Part k t m s) = refl
+arrival-back (arrival.Refused r) = ap arrival.Refused (refusal-back r)
+
+answerOf : taking.Answer → Answer
+answerOf (taking.kept s d) = answer.Kept s d
+answerOf (taking.heldAlready s) = answer.HeldAlready s
+answerOf (taking.packet m) = answer.Packet m
+answerOf (taking.refused n) = answer.Refused (refusalOf n)
+
+answer-back : (r : Answer) → answerOf (taking.toldAnswer r) ≡ r
+unfolding answerOf
+answer-back (answer.Kept s d) = refl
+answer-back (answer.HeldAlready s) = refl
+answer-back (answer.Packet m) = refl
+answer-back (answer.Refused r) = ap answer.Refused (refusal-back r)
+
+takenOf : taking.After → Taken × (List ℕ × List ℕ)
+takenOf a = (record { answer = answerOf (a .answer); «record» = a .state .rec }, (a .state .cells, a .state .output))
+
+taken-back : (r : Taken × (List ℕ × List ℕ)) → takenOf (toldTaken r) ≡ r
+unfolding takenOf
+taken-back (r, (cells, output)) = ap (λ (x : Answer). (record { answer = x; «record» = r .«record» }, (cells, output))) (answer-back (r .answer))
+
+pub promises : Promises
+promises = record {
+  refusal-number = tight numberOf refusalOf refusal-back;
+  parse-command = tight toldCommand commandOf command-back;
+  parse-response = tight toldResponse responseOf response-back;
+  build-and-checksum = tight toldBuilt writtenOf written-back;
+  read-message-and-page = tight toldArrival arrivalOf arrival-back;
+  take-message-and-page = tight toldTaken takenOf taken-back;
+  write-message-and-page = tight toldPart partOf part-back;
+}
+
+pub plain-promises : PlainPromises
+plain-promises Outcome rule r₁ r₂ e₁ e₂ = e₁ ∙ sym e₂

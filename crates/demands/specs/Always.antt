@@ -1,0 +1,26 @@
+-- Demand 3's last sentence, and what makes it true: for every sequence of calls whatsoever, from a fresh record.
+use Prim.Native.Nat.{ℕ, _<_}
+use mathlib.Core.Path.{_≡_}
+use mathlib.Core.Bool.{true}
+use mathlib.Core.List.{List}
+use Rattle.packet.specs.declared.Kind.{Kind}
+use Rattle.series.specs.Slots.{slotAt}
+use Rattle.series.specs.Formed.{recordFormed}
+use Rattle.series.specs.Calls.{octetsOf}
+use Rattle.demands.specs.Runs.{Call, fresh, run, Octets, Each}
+
+-- a call brings octets; what it lends may have any length
+abbrev pub BringsOctets : Call → Type 0
+BringsOctets c = Octets (octetsOf (c .input))
+
+-- every record that calls lead to is well formed
+abbrev pub AlwaysFormed : ℕ → Kind → Type 0
+AlwaysFormed n k =
+    (cells : List ℕ) (calls : List Call) → Each BringsOctets calls → recordFormed n (run n (fresh n k cells) calls .rec) ≡ true
+
+-- "At no moment does one key occupy two slots."
+abbrev pub NoKeyTwice : ℕ → Kind → Type 0
+NoKeyTwice n k =
+    (cells : List ℕ) (calls : List Call) → Each BringsOctets calls → (i j : ℕ) → i < n → j < n
+    → 0 < slotAt (run n (fresh n k cells) calls .rec .slots) i .rank → 0 < slotAt (run n (fresh n k cells) calls .rec .slots) j .rank
+    → slotAt (run n (fresh n k cells) calls .rec .slots) i .key ≡ slotAt (run n (fresh n k cells) calls .rec .slots) j .key → i ≡ j

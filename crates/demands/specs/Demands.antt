@@ -1,0 +1,39 @@
+-- THE THREE DEMANDS on the library, at 01's three slots.
+use Prim.Native.Nat.{ℕ}
+use mathlib.Core.List.{List}
+use Rattle.packet.specs.declared.Kind.{Kind}
+use Rattle.arrival.specs.declared.Key.{Key}
+use Rattle.series.specs.Slots.{slotCount}
+use Rattle.demands.specs.Refusing.{TakingRefused, ParsingRefused, BuildingRefused, ChecksumRefused, WritingRefused, PageRefused}
+use Rattle.demands.specs.RoundTrips.{BuildThenRead, CommandTells, ReadThenBuild, SplitMessages, SplitPages}
+use Rattle.demands.specs.Wake.{WakeWindow, PacketComes}
+use Rattle.demands.specs.Always.{AlwaysFormed, NoKeyTwice}
+use Rattle.demands.specs.SplitTaken.{MessagesArrive, PagesArrive}
+
+-- 1. "Every entry point takes every input, does nothing undefined and ends": no public call asks anything of its caller, and each is proved.
+-- "A refusal alters no lent buffer and no record", with one exception.
+pub record Demand1 : Type 0 where
+  pub taking : TakingRefused slotCount
+  pub parsing : ParsingRefused
+  pub building : BuildingRefused
+  pub checksum-octets : ChecksumRefused
+  pub writing-user-data : WritingRefused
+  pub writing-a-page : PageRefused
+
+-- 2. The rules are 01's, and every public call equals its rule; "building then reading gives the same fields, and reading then building the
+-- same octets"; what is split is put together again.
+pub record Demand2 : Type 0 where
+  pub build-then-read : BuildThenRead
+  pub command-tells : CommandTells
+  pub read-then-build : ReadThenBuild
+  pub split-messages : SplitMessages
+  pub split-pages : SplitPages
+  pub messages-arrive : MessagesArrive slotCount
+  pub pages-arrive : PagesArrive slotCount
+
+-- 3. The wake window, for either kind, every key, every packet and every cut of it; and "at no moment does one key occupy two slots".
+pub record Demand3 : Type 0 where
+  pub wake-window : (k : Kind) (K : Key) (P : List ℕ) (parts : List (List ℕ)) → WakeWindow slotCount k K P parts
+  pub packet-comes : (k : Kind) (K : Key) (P : List ℕ) (parts : List (List ℕ)) → PacketComes slotCount k K P parts
+  pub always-formed : (k : Kind) → AlwaysFormed slotCount k
+  pub no-key-twice : (k : Kind) → NoKeyTwice slotCount k

@@ -1,0 +1,10 @@
+pub mod Demands
+pub mod Examples
+pub mod Runs
+pub mod Wake
+pub mod Always
+pub mod Refusing
+pub mod Tightness
+pub mod Reached
+pub mod RoundTrips
+pub mod SplitTaken

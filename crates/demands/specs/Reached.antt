@@ -1,0 +1,54 @@
+-- The premises of the wake window can be met, and its number is the right one: a packet in two parts comes with two other keys between them,
+-- and does not with three. Buffers are filled with any octet.
+use Prim.Native.Nat.{ℕ}
+use mathlib.Core.Path.{_≡_}
+use mathlib.Core.Bool.{true, false}
+use mathlib.Core.List.{List, [], _∷_, _++_}
+use lib.ListN.{length, take, drop, replicate}
+use Rattle.packet.specs.declared.Kind.the-variants.{Command}
+use Rattle.packet.specs.Packets.{mostOctets}
+use Rattle.arrival.specs.declared.Key.{Key}
+use Rattle.series.specs.Slots.{slotCount}
+use Rattle.series.specs.Cells.{cellsSize}
+use Rattle.series.specs.Taking.{After, Answer, kept, packet}
+use Rattle.series.specs.Calls.{message}
+use Rattle.demands.specs.Examples.{M}
+use Rattle.demands.specs.Runs.{Call, Store, fresh, outcome, run}
+use Rattle.demands.specs.Wake.{Fair, EachWith, Start, begin}
+
+-- M of 01's examples, cut in two, under the key of sender 1 with the 8-bit reference 2A
+abbrev pub key : Key
+key = record { sender = 1; width = 8; reference = 0x2A; serial = record { 0 = 0 }; identifier = record { 0 = 0 } }
+
+abbrev pub halves : List (List ℕ)
+halves = take 8 M ∷ drop 8 M ∷ []
+
+module _ (b : ℕ) where
+  abbrev pub call : ℕ → List ℕ → Call
+  call sender ud = record { input = message sender ud; output = replicate mostOctets b }
+
+  abbrev pub first : Call
+  first = call 1 (0x07 ∷ 0x00 ∷ 0x03 ∷ 0x2A ∷ 0x02 ∷ 0x01 ∷ 0x70 ∷ 0x00 ∷ take 8 M)
+
+  abbrev pub second : Call
+  second = call 1 (0x05 ∷ 0x00 ∷ 0x03 ∷ 0x2A ∷ 0x02 ∷ 0x02 ∷ drop 8 M)
+
+  -- part 2 of 2 of another sender, without octets of its own
+  abbrev pub other : ℕ → Call
+  other sender = call sender (0x05 ∷ 0x00 ∷ 0x03 ∷ 0x2A ∷ 0x02 ∷ 0x02 ∷ [])
+
+  abbrev pub cells : List ℕ
+  cells = replicate (cellsSize slotCount) b
+
+  abbrev pub two : List Call
+  two = first ∷ other 2 ∷ other 3 ∷ second ∷ []
+
+  -- with two other keys the premises hold, and the packet comes
+  pub record Met : Type 0 where
+    pub start : Start slotCount Command key M halves cells [] two
+    pub fair : EachWith slotCount Command key 2 (Fair slotCount Command key M halves) (begin slotCount Command key M halves cells []) two
+    pub comes : outcome slotCount (run slotCount (fresh slotCount Command cells) (first ∷ other 2 ∷ other 3 ∷ [])) second .answer ≡ packet 16
+
+  -- with three the first part is displaced: the second opens a series anew, and displaces another
+  pub record Missed : Type 0 where
+    pub kept-anew : outcome slotCount (run slotCount (fresh slotCount Command cells) (first ∷ other 2 ∷ other 3 ∷ other 4 ∷ [])) second .answer ≡ kept 1 true

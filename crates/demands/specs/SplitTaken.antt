@@ -1,0 +1,66 @@
+-- From splitting to taking: what is written by splitting, taken in any order under the premises of the wake window, hands out the packet.
+use Prim.Native.Nat.{ℕ, zero, suc, _≤_, _<_}
+use mathlib.Core.Path.{_≡_}
+use mathlib.Core.Bool.{true}
+use mathlib.Core.List.{List, [], _∷_, _++_}
+use lib.ListN.{length}
+use Rattle.packet.specs.declared.Kind.{Kind}
+use Rattle.packet.specs.declared.Kind.the-variants.{Command}
+use Rattle.packet.specs.Packets.{wellFormed}
+use Rattle.arrival.specs.declared.Key.{Key}
+use Rattle.arrival.specs.Message.{messageKey}
+use Rattle.arrival.specs.Page.{pageKey, identifierInRange}
+use Rattle.arrival.specs.Keys.{referenceFits}
+use Rattle.series.specs.Cells.{cellsSize}
+use Rattle.series.specs.CaseLaws.{Lacks}
+use Rattle.series.specs.Calls.{Input, message, page}
+use Rattle.split.specs.Splitting as split
+use Rattle.demands.specs.Runs.{Call, fresh, run, Proper, Each}
+use Rattle.demands.specs.Wake.{complete, Seen, nothingSeen, follow, EachWith, Comes}
+
+-- f 1, f 2, .. f t
+abbrev pub listed : {A : Type 0} → (ℕ → A) → ℕ → List A
+listed f zero = []
+listed f (suc m) = listed f m ++ (f (suc m) ∷ [])
+
+-- A call with the key, while parts are missing, brings one of the t inputs that were written, and comes soon enough.
+pub record Sent (n t : ℕ) (written : ℕ → Input) (w : Seen) (c : Call) (total number start : ℕ) : Type 0 where
+  pub which : ℕ
+  pub low : 1 ≤ which
+  pub high : which ≤ t
+  pub is : c .input ≡ written which
+  pub soon : (w .got ≡ [] → ⊥) → length (w .since) < n
+
+-- any calls before, from a fresh record, after which the key is not held
+pub record Sending (n : ℕ) (k : Kind) (K : Key) (P : List ℕ) (cells : List ℕ) (earlier calls : List Call) : Type 0 where
+  pub formed : wellFormed k P ≡ true
+  pub size : length cells ≡ cellsSize n
+  pub before : Each Proper earlier
+  pub proper : Each Proper calls
+  pub lacks : Lacks n (run n (fresh n k cells) earlier .rec .slots) K
+
+-- the packet comes, with all t inputs among the calls
+abbrev pub Arrives : (n : ℕ) (k : Kind) (K : Key) (P : List ℕ) (t : ℕ) (octets : ℕ → List ℕ) (written : ℕ → Input) → Type 0
+Arrives n k K P t octets written =
+    (cells : List ℕ) (earlier calls : List Call) → Sending n k K P cells earlier calls
+    → EachWith n k K t (Sent n t written) (nothingSeen (run n (fresh n k cells) earlier)) calls
+    → complete t (follow n k K (nothingSeen (run n (fresh n k cells) earlier)) calls .got) ≡ true
+    → Comes n k K P (listed octets t) cells earlier calls
+
+-- user data, for either kind and either width
+abbrev pub keyOf : ℕ → ℕ → ℕ → Key
+keyOf sender width reference = messageKey sender (record { width = width; reference = reference; total = 0; number = 0 })
+
+abbrev pub MessagesArrive : ℕ → Type 0
+MessagesArrive n =
+    (k : Kind) (sender width reference : ℕ) (P : List ℕ) → referenceFits width reference ≡ true → length P ≤ split.mostSplit width
+    → 2 ≤ split.parts width (length P)
+    → Arrives n k (keyOf sender width reference) P (split.parts width (length P)) (split.partOctets width P)
+    (λ number. message sender (split.userData k width reference P number))
+
+-- pages, each with any DCS
+abbrev pub PagesArrive : ℕ → Type 0
+PagesArrive n =
+    (serial identifier : ℕ) (dcs : ℕ → ℕ) (P : List ℕ) → identifierInRange identifier ≡ true → length P ≤ split.mostPages → 2 ≤ split.pages (length P)
+    → Arrives n Command (pageKey serial identifier) P (split.pages (length P)) (split.contentOf P)
+    (λ number. page (split.page serial identifier (dcs number) P number))

@@ -1,0 +1,54 @@
+-- "Two outcomes allowed by one promise are shown equal" (01, "How tight the promises are"). A promise has the form: what the paper says of an
+-- outcome is what the rule says. It is tight where no two outcomes are told alike.
+use Prim.Native.Nat.{ℕ}
+use mathlib.Core.Path.{_≡_}
+use mathlib.Core.List.{List}
+use Rattle.packet.specs.declared.Refusal.{Refusal}
+use Rattle.packet.specs.declared.Written.{Written}
+use Rattle.packet.specs.declared.ParsedCommand.{ParsedCommand}
+use Rattle.packet.specs.declared.ParsedResponse.{ParsedResponse}
+use Rattle.packet.specs.Refusals.{Lent, lent, numberOf, toldWritten}
+use Rattle.packet.specs.Told.{toldCommand, toldResponse}
+use Rattle.arrival.specs.declared.Arrival.{Arrival}
+use Rattle.arrival.specs.Arrivals.{toldArrival}
+use Rattle.series.specs.declared.Taken.{Taken}
+use Rattle.series.specs.Taking as taking
+use Rattle.split.specs.declared.WrittenPart.{WrittenPart}
+use Rattle.split.specs.Splitting as split
+
+-- whatever the rule says, two outcomes of which that is told are the same
+abbrev pub Tight : {Outcome Paper : Type 0} → (Outcome → Paper) → Type 0
+Tight {Outcome} {Paper} told = (rule : Paper) (r₁ r₂ : Outcome) → told r₁ ≡ rule → told r₂ ≡ rule → r₁ ≡ r₂
+
+-- ---- what the calls leave, and what is told of it
+-- an answer, and the lent buffer as it is afterwards
+abbrev pub toldBuilt : Written × List ℕ → Lent
+toldBuilt (r, buffer) = lent (toldWritten r) buffer
+
+abbrev pub toldPart : WrittenPart × List ℕ → split.Written
+toldPart (r, buffer) = split.written (split.told r) buffer
+
+-- an answer with the record, and the lent cells and output as they are afterwards
+abbrev pub toldTaken : Taken × (List ℕ × List ℕ) → taking.After
+toldTaken (r, (cells, output)) = taking.after (taking.toldAnswer (r .answer)) (r .record) cells output
+
+-- ---- the promises, each by the call's name
+pub record Promises : Type 0 where
+  -- Refusal::number
+  pub refusal-number : Tight numberOf
+  -- parse_command, parse_response
+  pub parse-command : Tight toldCommand
+  pub parse-response : Tight toldResponse
+  -- build_command, build_ciphered_command, build_response, build_ciphered_response, command_checksum, response_checksum
+  pub build-and-checksum : Tight toldBuilt
+  -- read_message, read_page
+  pub read-message-and-page : Tight toldArrival
+  -- take_message, take_page
+  pub take-message-and-page : Tight toldTaken
+  -- write_message, write_page
+  pub write-message-and-page : Tight toldPart
+
+-- Where the promise is that the outcome itself is what the rule says, nothing else can be told of it: pair_of, number_of, put (the answer and
+-- the buffer), same, formed, well_formed, fresh, record_formed, and the octets of the part that a showing call or own_octets gives.
+abbrev pub PlainPromises : Type 1
+PlainPromises = (Outcome : Type 0) → Tight {Outcome = Outcome} {Paper = Outcome} (λ r. r)

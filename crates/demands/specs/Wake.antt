@@ -1,0 +1,169 @@
+-- Demand 3, the wake window, for n slots; 01's library has three. Premises and conclusion are two predicates of what was seen before a call
+-- and of the call.
+use Prim.Native.Nat.{ℕ, suc, _+_, _-_, _≤_, _<_}
+use mathlib.Core.Path.{_≡_}
+use mathlib.Core.Bool.{Bool, true, false, cond, _||_}
+use mathlib.Core.List.{List, [], _∷_, _++_}
+use lib.ListN.{length, getD, drop}
+use lib.Dec.{eqb}
+use Rattle.packet.specs.declared.Kind.{Kind}
+use Rattle.packet.specs.Refusals as reading
+use Rattle.packet.specs.Packets.{wellFormed}
+use Rattle.arrival.specs.declared.Key.{Key}
+use Rattle.arrival.specs.Arrivals.{Brought, single, part}
+use Rattle.arrival.specs.Keys.{ofPages}
+use Rattle.series.specs.Below.{allBelow}
+use Rattle.series.specs.Slots.{slotAt, sameKey}
+use Rattle.series.specs.Cells.{cellsSize, pagesAllow}
+use Rattle.series.specs.Taking.{After, Answer, kept, heldAlready, packet, refused}
+use Rattle.series.specs.CaseLaws.{Bears, Lacks}
+use Rattle.series.specs.Calls.{read, octetsOf}
+use Rattle.demands.specs.Runs.{Call, Store, fresh, outcome, left, run, Proper, Each}
+
+-- ---- the packet and its parts
+abbrev pub concat : List (List ℕ) → List ℕ
+concat [] = []
+concat (p ∷ ps) = p ++ concat ps
+
+-- "cut into 2 to 16 parts": joined in order they are the packet; for pages "as few pages as hold it, then filler"
+pub data Cut (K : Key) (P : List ℕ) (parts : List (List ℕ)) : Type 0 where
+  messages : ofPages K ≡ false → concat parts ≡ P → Cut K P parts
+  pages : ofPages K ≡ true → (filler : List ℕ) → concat parts ≡ P ++ filler → pagesAllow (length parts) (length P) ≡ true → Cut K P parts
+
+-- ---- what is seen from outside
+abbrev pub elem : ℕ → List ℕ → Bool
+elem j [] = false
+elem j (k ∷ l) = eqb j k || elem j l
+
+abbrev pub elemKey : Key → List Key → Bool
+elemKey X [] = false
+elemKey X (Y ∷ l) = sameKey X Y || elemKey X l
+
+-- put in, where it is not there yet
+abbrev pub add : ℕ → List ℕ → List ℕ
+add k l = cond (elem k l) l (k ∷ l)
+
+abbrev pub addKey : Key → List Key → List Key
+addKey X l = cond (elemKey X l) l (X ∷ l)
+
+-- all of 1 to t have come
+abbrev pub complete : ℕ → List ℕ → Bool
+complete t got = allBelow t (λ i. elem (i + 1) got)
+
+-- 'answered "kept" or "held already"'
+abbrev pub counts : Answer → Bool
+counts (kept i d) = true
+counts (heldAlready i) = true
+counts (packet m) = false
+counts (refused m) = false
+
+-- What was seen before a call: what the calls before left; the numbers that calls with the key have brought; and the other keys that calls
+-- answered "kept" or "held already" have borne since the last call with the key.
+pub record Seen : Type 0 where
+  pub store : Store
+  pub got : List ℕ
+  pub since : List Key
+
+abbrev pub nothingSeen : Store → Seen
+nothingSeen st = record { store = st; got = []; since = [] }
+
+module _ (n : ℕ) (k : Kind) (K : Key) where
+  -- after a call that bears the key X and brings part `number`; the Boolean says whether X is K
+  abbrev pub seenPart : Seen → After → Key → ℕ → Bool → Seen
+  seenPart w a X number true = record { store = left a; got = add number (w .got); since = [] }
+  seenPart w a X number false = record { store = left a; got = w .got; since = cond (counts (a .answer)) (addKey X (w .since)) (w .since) }
+
+  -- Which call bears a key is told by reading its octets, never by its answer.
+  abbrev pub seenAfter : Seen → After → reading.Outcome Brought → Seen
+  seenAfter w a (reading.refused m) = record { store = left a; got = w .got; since = w .since }
+  seenAfter w a (reading.gives (single start)) = record { store = left a; got = w .got; since = w .since }
+  seenAfter w a (reading.gives (part X total number start)) = seenPart w a X number (sameKey X K)
+
+  abbrev pub seen : Seen → Call → Seen
+  seen w c = seenAfter w (outcome n (w .store) c) (read k (c .input))
+
+  abbrev pub follow : Seen → List Call → Seen
+  follow w [] = w
+  follow w (c ∷ cs) = follow (seen w c) cs
+
+  -- P holds of each call that bears the key while parts are missing, with what was seen before it
+  abbrev pub EachWith : ℕ → (Seen → Call → (total number start : ℕ) → Type 0) → Seen → List Call → Type 0
+  EachWith t P w calls =
+      (u : List Call) (c : Call) (v : List Call) → calls ≡ u ++ c ∷ v → (total number start : ℕ)
+      → read k (c .input) ≡ reading.gives (part K total number start) → complete t (follow w u .got) ≡ false → P (follow w u) c total number start
+
+  module _ (P : List ℕ) (parts : List (List ℕ)) where
+    -- ---- premise
+    -- "each call with that key bring one of these parts, in any order, repeats allowed", and between two successive such calls fewer than n
+    -- other keys: "at most two"
+    pub record Fair (w : Seen) (c : Call) (total number start : ℕ) : Type 0 where
+      pub counted : total ≡ length parts
+      pub brought : drop start (octetsOf (c .input)) ≡ getD parts (number - 1) []
+      pub soon : (w .got ≡ [] → ⊥) → length (w .since) < n
+
+    -- ---- conclusion
+    -- the number had come before: "held already" with the series' slot, cells and output as they were
+    pub record Repeated (w : Seen) (c : Call) (a : After) : Type 0 where
+      pub slot : ℕ
+      pub bears : Bears n (a .state .rec .slots) K slot
+      pub answer : a .answer ≡ heldAlready slot
+      pub cells : a .state .cells ≡ w .store .cells
+      pub output : a .state .output ≡ c .output
+
+    -- parts are still missing: "kept" with the series' slot, another series displaced at most at the first
+    pub record Waits (w : Seen) (c : Call) (a : After) : Type 0 where
+      pub slot : ℕ
+      pub displaced : Bool
+      pub bears : Bears n (a .state .rec .slots) K slot
+      pub answer : a .answer ≡ kept slot displaced
+      pub first : (w .got ≡ [] → ⊥) → displaced ≡ false
+      pub output : a .state .output ≡ c .output
+
+    -- the last missing part: exactly the packet is handed out, and the key is held no more
+    pub record Wakes (w : Seen) (c : Call) (a : After) : Type 0 where
+      pub answer : a .answer ≡ packet (length P)
+      pub output : a .state .output ≡ P ++ drop (length P) (c .output)
+      pub cells : a .state .cells ≡ w .store .cells
+      pub gone : Lacks n (a .state .rec .slots) K
+
+    pub record Served (w : Seen) (c : Call) (total number start : ℕ) : Type 0 where
+      pub again : elem number (w .got) ≡ true → Repeated w c (outcome n (w .store) c)
+      pub waits : elem number (w .got) ≡ false → complete (length parts) (add number (w .got)) ≡ false → Waits w c (outcome n (w .store) c)
+      pub wakes : elem number (w .got) ≡ false → complete (length parts) (add number (w .got)) ≡ true → Wakes w c (outcome n (w .store) c)
+
+-- ---- the theorem
+module _ (n : ℕ) (k : Kind) (K : Key) (P : List ℕ) (parts : List (List ℕ)) where
+  -- A well-formed packet of the record's kind, cut into parts; any calls before, from a fresh record, after which the key is not held.
+  pub record Start (cells : List ℕ) (earlier calls : List Call) : Type 0 where
+    pub formed : wellFormed k P ≡ true
+    pub cut : Cut K P parts
+    pub two : 2 ≤ length parts
+    pub size : length cells ≡ cellsSize n
+    pub before : Each Proper earlier
+    pub proper : Each Proper calls
+    pub lacks : Lacks n (run n (fresh n k cells) earlier .rec .slots) K
+
+  abbrev pub begin : List ℕ → List Call → Seen
+  begin cells earlier = nothingSeen (run n (fresh n k cells) earlier)
+
+  -- THE WAKE WINDOW: "then no such call is refused, and the one that brings the last missing part hands out exactly that packet"
+  abbrev pub WakeWindow : Type 0
+  WakeWindow =
+      (cells : List ℕ) (earlier calls : List Call) → Start cells earlier calls
+      → EachWith n k K (length parts) (Fair n k K P parts) (begin cells earlier) calls
+      → EachWith n k K (length parts) (Served n k K P parts) (begin cells earlier) calls
+
+  -- with all parts among the calls, such a call is there
+  pub record Comes (cells : List ℕ) (earlier calls : List Call) : Type 0 where
+    pub u : List Call
+    pub c : Call
+    pub v : List Call
+    pub where-it-is : calls ≡ u ++ c ∷ v
+    pub wakes : Wakes n k K P parts (follow n k K (begin cells earlier) u) c (outcome n (follow n k K (begin cells earlier) u .store) c)
+
+  abbrev pub PacketComes : Type 0
+  PacketComes =
+      (cells : List ℕ) (earlier calls : List Call) → Start cells earlier calls
+      → EachWith n k K (length parts) (Fair n k K P parts) (begin cells earlier) calls
+      → complete (length parts) (follow n k K (begin cells earlier) calls .got) ≡ true
+      → Comes cells earlier calls
