@@ -2,10 +2,11 @@
 use Prim.Native.Nat.{ℕ}
 use mathlib.Core.List.{List}
 use Rattle.packet.specs.declared.Kind.{Kind}
+use Rattle.packet.specs.Packets.{Fields}
 use Rattle.arrival.specs.declared.Key.{Key}
 use Rattle.series.specs.Slots.{slotCount}
 use Rattle.demands.specs.Refusing.{TakingRefused, ParsingRefused, BuildingRefused, ChecksumRefused, WritingRefused, PageRefused}
-use Rattle.demands.specs.RoundTrips.{BuildThenRead, CommandTells, ReadThenBuild, SplitMessages, SplitPages}
+use Rattle.demands.specs.RoundTrips.{BuildThenRead, CommandTells, ReadThenBuild, ParsedIsFormed, BuildsOrRefuses, SplitMessages, SplitPages}
 use Rattle.demands.specs.Wake.{WakeWindow, PacketComes}
 use Rattle.demands.specs.Always.{AlwaysFormed, NoKeyTwice}
 use Rattle.demands.specs.SplitTaken.{MessagesArrive, PagesArrive}
@@ -26,6 +27,8 @@ pub record Demand2 : Type 0 where
   pub build-then-read : BuildThenRead
   pub command-tells : CommandTells
   pub read-then-build : ReadThenBuild
+  pub parsed-is-formed : ParsedIsFormed
+  pub builds-or-refuses : (k : Kind) (x : Fields) → BuildsOrRefuses k x
   pub split-messages : SplitMessages
   pub split-pages : SplitPages
   pub messages-arrive : MessagesArrive slotCount

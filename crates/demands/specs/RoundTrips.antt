@@ -2,14 +2,14 @@
 -- puts together again.
 use Prim.Native.Nat.{ℕ, _-_, _*_, _≤_, _<_}
 use mathlib.Core.Path.{_≡_}
-use mathlib.Core.Bool.{Bool, true}
+use mathlib.Core.Bool.{Bool, true, false}
 use mathlib.Core.List.{List, _++_}
 use lib.ListN.{length, getD, drop, replicate}
 use Rattle.octets.specs.Joined.{joined}
 use Rattle.packet.specs.declared.Kind.{Kind}
 use Rattle.packet.specs.declared.Kind.the-variants.{Command, Response}
-use Rattle.packet.specs.Refusals.{gives}
-use Rattle.packet.specs.Packets.{mostOctets, wellFormed, Fields, fieldsOf, cipheredCommand, isCiphered, measured, parsing, securedOf, checkOf, opaqueOf, shownData, shownCheck, shownOpaque, building}
+use Rattle.packet.specs.Refusals.{gives, refused}
+use Rattle.packet.specs.Packets.{mostOctets, wellFormed, Fields, fieldsOf, cipheredCommand, isCiphered, measured, parsing, securedOf, checkOf, opaqueOf, shownData, shownCheck, shownOpaque, againstSpi, misfit, packetOf, Parsed, building}
 use Rattle.packet.specs.Laws.{RightLength}
 use Rattle.arrival.specs.Arrivals.{single, part}
 use Rattle.arrival.specs.Message.{messageKey, readMessage}
@@ -44,6 +44,17 @@ abbrev pub ReadThenBuild : Type 0
 ReadThenBuild =
     (k : Kind) (c : Bool) (p : List ℕ) → wellFormed k p ≡ true → length p ≤ mostOctets → ((i : ℕ) → getD p i 0 < 256) → Said k c p
     → building k (fieldsOf k c p) ≡ gives p
+
+-- a packet that parses is well formed, and not too long
+abbrev pub ParsedIsFormed : Type 0
+ParsedIsFormed = (k : Kind) (c : Bool) (p : List ℕ) (x : Parsed) → parsing k c p ≡ gives x → (wellFormed k p ≡ true) × (length p ≤ mostOctets)
+
+-- building is refused exactly on its conditions, tested in their order, and else gives the packet
+pub record BuildsOrRefuses (k : Kind) (x : Fields) : Type 0 where
+  pub ten : againstSpi k x ≡ true → building k x ≡ refused 10
+  pub eleven : againstSpi k x ≡ false → misfit k x ≡ true → building k x ≡ refused 11
+  pub twelve : againstSpi k x ≡ false → misfit k x ≡ false → mostOctets < length (packetOf k x) → building k x ≡ refused 12
+  pub given : againstSpi k x ≡ false → misfit k x ≡ false → length (packetOf k x) ≤ mostOctets → building k x ≡ gives (packetOf k x)
 
 -- ---- splitting
 -- one message: the packet is its own octets; several: each part is read as that part of the series, and joined in order they are the packet
