@@ -1,7 +1,10 @@
 // What the programs that run vectors share: packets made of any lengths, lent buffers whose octets tell whether they were written, and the
 // start of a line.
 use libc::STDOUT_FILENO;
+use lines::digits;
+use lines::words;
 use packet::Refusal;
+ghost use Prim.Native.Nat.{_≤_};
 
 // What every octet of a lent buffer is before a call. No octet that is counted is one of these.
 pub const FILLER: u8 = 0xA5;
@@ -70,11 +73,22 @@ pub fn last(a: &[u8], n: usize) -> &[u8] {
     &a[from..]
 }
 
-// How many octets at a buffer's end are as they were before the call.
-pub fn left(a: &[u8]) -> usize {
+// The octets from place a up to place e, or none where there are no such.
+pub fn between(text: &[u8], a: usize, e: usize) -> &[u8] {
+    if text.len() < e {
+        return &text[0..0];
+    }
+    if e < a {
+        return &text[0..0];
+    }
+    &text[a..e]
+}
+
+// How many octets at a buffer's end are x.
+pub fn ending(a: &[u8], x: u8) -> usize {
     let mut n = 0;
     while n < a.len() {
-        if a[a.len() - 1 - n] != FILLER {
+        if a[a.len() - 1 - n] != x {
             return n;
         }
         n += 1;
@@ -82,7 +96,51 @@ pub fn left(a: &[u8]) -> usize {
     n
 }
 
-// ---- lines
+// How many octets at a buffer's end are as they were before the call.
+pub fn left(a: &[u8]) -> usize {
+    ending(a, FILLER)
+}
+
+// ---- a vector as a line of input
+// Where the line ends that begins at a place.
+pub fn line_end(text: &[u8], from: usize) -> usize
+    ensures { λ r. ⌜ from ≤ r ⌝ }
+{
+    if text.len() < from {
+        return from;
+    }
+    bytes::scan::find(text, from, text.len(), 10)
+}
+
+// A line's first word.
+pub fn word(line: &[u8]) -> &[u8] {
+    let first = words::word_from(line, 0);
+    between(line, first.start, first.end)
+}
+
+// A line from its second word on.
+pub fn after(line: &[u8]) -> &[u8] {
+    let first = words::word_from(line, 0);
+    let second = words::word_from(line, first.end);
+    behind(line, second.start)
+}
+
+// The decimal number that a word is, or 0.
+pub fn number(word: &[u8]) -> u32 {
+    digits::number_in(word).value
+}
+
+// The same as a length.
+pub fn size(word: &[u8]) -> usize {
+    number(word) as usize
+}
+
+// Writes the octets of a word to the start of out, and answers how many there are.
+pub fn octets(word: &[u8], out: &mut [u8]) -> usize {
+    digits::octets_of_word(word, out).count
+}
+
+// ---- a line of output
 // How a line starts: the call and the vector.
 pub fn start(call: &[u8], label: &[u8]) {
     io::write_all(STDOUT_FILENO, call);

@@ -1,15 +1,15 @@
--- `left` ends: the octets not looked at yet fall by one each turn, and a place counted from the end lies in the slice.
+-- `ending` ends: the octets not looked at yet fall by one each turn, and a place counted from the end lies in the slice.
 use Prim.Native.Nat.{_≤_, _-_}
 use lib.ListN.{length}
 use borrow.Author.Needs.{needs}
-use Rattle.vectors.proofs.left.Statement.{statement}
-use Rattle.vectors.proofs.left.Tie as tie
+use Rattle.vectors.proofs.ending.Statement.{statement}
+use Rattle.vectors.proofs.ending.Tie as tie
 
 abbrev Inv-loop : tie.InvT-loop
-Inv-loop a n₀ n = n ≤ length a
+Inv-loop a x n₀ n = n ≤ length a
 
 abbrev μ-loop : tie.MeasureT-loop
-μ-loop a n₀ n = length a - n
+μ-loop a x n₀ n = length a - n
 
 loop-holds : tie.Need-loop-holds Inv-loop μ-loop
 loop-holds c = search needs
@@ -38,8 +38,8 @@ loop-again c = search needs
 returns-2 : tie.Need-returns-2 Inv-loop μ-loop
 returns-2 c = search needs
 
-pub left-spec : {M : Type 1} → statement M
-left-spec =
+pub ending-spec : {M : Type 1} → statement M
+ending-spec =
     tie.close
     (tie.spec
     Inv-loop

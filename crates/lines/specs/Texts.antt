@@ -1,0 +1,25 @@
+-- Text is put into a lent buffer piece behind piece. A piece that does not fit is left out.
+use Prim.Native.Nat.{ℕ, _+_}
+use mathlib.Core.Bool.{true, cond}
+use mathlib.Core.List.{List}
+use lib.ListN.{length}
+use mathlib.Core.Path.{_≡_}
+use Rattle.io.specs.Digits.{digits, Fewest}
+use Rattle.lines.specs.declared.Gathered.{Gathered}
+use Rattle.octets.specs.Octets.{fitsAt, afterPut}
+
+-- where the text ends after a piece was put at a place
+abbrev pub endOf : List ℕ → ℕ → List ℕ → ℕ
+endOf text at piece = cond (fitsAt text at piece) (at + length piece) at
+
+-- what is gathered of a line after a piece more
+abbrev pub gathered : List ℕ → Gathered → List ℕ → Gathered
+gathered line g piece =
+    record { count = endOf line (g .count) piece; long = cond (fitsAt line (g .count) piece) (g .long) true }
+
+-- a number n was put at a place, in decimal: `count` is the fewest digits that hold it
+pub record Printed (n : ℕ) (text : List ℕ) (at end : ℕ) (after : List ℕ) : Type 0 where
+  pub count : ℕ
+  pub fewest : Fewest 10 1 n count
+  pub ends : end ≡ endOf text at (digits 10 count n)
+  pub is : after ≡ afterPut text at (digits 10 count n)

@@ -1,0 +1,116 @@
+// Answers as text: pieces put one behind the other into a lent buffer. A piece that does not fit is left out, so that every call is safe
+// for any buffer; one that has room for a whole answer gets it whole.
+use crate::Said;
+use crate::digits;
+use packet::Refusal;
+ghost use mathlib.Core.Path.{_≡_};
+ghost use lib.ListN.{take};
+ghost use Rattle.octets.specs.Octets.{afterPut};
+ghost use Rattle.lines.specs.Digits.{octetsText};
+ghost use Rattle.lines.specs.Texts.{endOf, Printed};
+
+// Puts a piece at a place and says where the text then ends.
+pub fn say(piece: &[u8], text: &mut [u8], at: usize) -> usize
+    ensures { λ r. ⌜ r ≡ endOf (now (text .entry)) at (now (piece .entry)) ⌝ }
+    ensures { λ _. ⌜ now (text .exit) ≡ afterPut (now (text .entry)) at (now (piece .entry)) ⌝ }
+{
+    if octets::put(piece, text, at) {
+        return at + piece.len();
+    }
+    at
+}
+
+// Octets as capital digits, or `-` where there are none.
+pub fn say_octets(octets: &[u8], text: &mut [u8], at: usize) -> usize
+    ensures { λ r. ⌜ r ≡ endOf (now (text .entry)) at (octetsText (now (octets .entry))) ⌝ }
+    ensures { λ _. ⌜ now (text .exit) ≡ afterPut (now (text .entry)) at (octetsText (now (octets .entry))) ⌝ }
+{
+    if octets.len() == 0 {
+        return say(b"-", text, at);
+    }
+    digits::put_hex(octets, text, at)
+}
+
+// A number in decimal, with as few digits as hold it.
+pub fn say_number(n: u64, text: &mut [u8], at: usize) -> usize
+    ensures { λ r. ⌜ Printed n (now (text .entry)) at r (now (text .exit)) ⌝ }
+{
+    let mut figures = [0u8; 20];
+    let count = io::decimal(n, &mut figures);
+    say(&figures[..count], text, at)
+}
+
+// A blank and octets.
+pub fn say_field(octets: &[u8], text: &mut [u8], at: usize) -> usize {
+    let at = say(b" ", text, at);
+    say_octets(octets, text, at)
+}
+
+// A blank and a number.
+pub fn say_count(n: usize, text: &mut [u8], at: usize) -> usize {
+    let at = say(b" ", text, at);
+    say_number(n as u64, text, at)
+}
+
+// The end of a line.
+pub fn say_end(text: &mut [u8], at: usize) -> usize {
+    say(b"\n", text, at)
+}
+
+// The first n octets, or all where there are fewer.
+pub fn first_of(octets: &[u8], n: usize) -> &[u8]
+    ensures { λ r. ⌜ now r ≡ take n (now (octets .entry)) ⌝ }
+{
+    if n <= octets.len() {
+        return &octets[..n];
+    }
+    octets
+}
+
+// A number n, the first n octets, and the end of the line.
+pub fn say_counted(n: usize, octets: &[u8], text: &mut [u8], at: usize) -> usize {
+    let at = say_count(n, text, at);
+    let at = say_field(first_of(octets, n), text, at);
+    say_end(text, at)
+}
+
+// `refused N`.
+pub fn say_refusal(refusal: Refusal, text: &mut [u8], at: usize) -> usize {
+    let at = say(b"refused", text, at);
+    let at = say_count(refusal.number() as usize, text, at);
+    say_end(text, at)
+}
+
+// A line that is understood, with its answer up to a place; and one that is not, with none.
+pub fn understood(at: usize) -> Said {
+    Said {
+        understood: true,
+        end: at,
+    }
+}
+
+pub fn not_understood(at: usize) -> Said {
+    Said {
+        understood: false,
+        end: at,
+    }
+}
+
+// `line N: `, and what is the matter with the line.
+fn say_trouble(number: u64, what: &[u8], text: &mut [u8], at: usize) -> usize {
+    let at = say(b"line ", text, at);
+    let at = say_number(number, text, at);
+    let at = say(b": ", text, at);
+    let at = say(what, text, at);
+    say_end(text, at)
+}
+
+// `line N: not understood`.
+pub fn say_not_understood(number: u64, text: &mut [u8], at: usize) -> usize {
+    say_trouble(number, b"not understood", text, at)
+}
+
+// `line N: too long`.
+pub fn say_too_long(number: u64, text: &mut [u8], at: usize) -> usize {
+    say_trouble(number, b"too long", text, at)
+}
