@@ -1,0 +1,52 @@
+// Whether two records are the same in every field, mark and length.
+use arrival::Key;
+use packet::Kind;
+use series::Record;
+use series::Slot;
+
+// Which of the two kinds it is.
+fn is_command(kind: Kind) -> bool {
+    match kind {
+        Kind::Command => true,
+        Kind::Response => false,
+    }
+}
+
+// Every field of two keys.
+fn same_key(a: Key, b: Key) -> bool {
+    (a.sender == b.sender)
+        & (a.width == b.width)
+        & (a.reference == b.reference)
+        & (a.serial.0 == b.serial.0)
+        & (a.identifier.0 == b.identifier.0)
+}
+
+// Marks and lengths.
+fn same_parts(a: Slot, b: Slot) -> bool {
+    let mut same = true;
+    let mut i = 0;
+    while i < 16 {
+        same = same & (a.held[i] == b.held[i]) & (a.lengths[i] == b.lengths[i]);
+        i = i + 1;
+    }
+    same
+}
+
+// Every field of two slots.
+fn same_slot(a: Slot, b: Slot) -> bool {
+    let k = a.key;
+    let l = b.key;
+    let keys = same_key(k, l);
+    let parts = same_parts(a, b);
+    (a.rank == b.rank) & (a.total == b.total) & keys & parts
+}
+
+// Kind and slots.
+pub fn same_record(a: Record, b: Record) -> bool {
+    let k = a.kind;
+    let l = b.kind;
+    let first = same_slot(a.slots[0], b.slots[0]);
+    let second = same_slot(a.slots[1], b.slots[1]);
+    let third = same_slot(a.slots[2], b.slots[2]);
+    (is_command(k) == is_command(l)) & first & second & third
+}
