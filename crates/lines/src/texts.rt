@@ -3,6 +3,7 @@
 use crate::Said;
 use crate::digits;
 use packet::Refusal;
+use packet::Written;
 ghost use mathlib.Core.Path.{_≡_};
 ghost use lib.ListN.{take};
 ghost use Rattle.octets.specs.Octets.{afterPut};
@@ -79,6 +80,17 @@ pub fn say_refusal(refusal: Refusal, text: &mut [u8], at: usize) -> usize {
     let at = say(b"refused", text, at);
     let at = say_count(refusal.number() as usize, text, at);
     say_end(text, at)
+}
+
+// What writing to a buffer came to: a name, how many octets stand at its start, and these.
+pub fn say_written(name: &[u8], written: Written, out: &[u8], text: &mut [u8], at: usize) -> usize {
+    match written {
+        Written::Octets(n) => {
+            let at = say(name, text, at);
+            say_counted(n, out, text, at)
+        }
+        Written::Refused(refusal) => say_refusal(refusal, text, at),
+    }
 }
 
 // A line that is understood, with its answer up to a place; and one that is not, with none.

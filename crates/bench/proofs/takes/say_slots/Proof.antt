@@ -1,0 +1,60 @@
+-- The text stays as long as it was; the slots that are left are the measure. Assumes nothing.
+use Prim.Native.Nat.{_-_, _≤_}
+use mathlib.Core.Path.{_≡_}
+use lib.ListN.{length}
+use borrow.Author.Needs.{needs}
+use Rattle.bench.proofs.takes.say_slots.Statement.{statement}
+use Rattle.bench.proofs.takes.say_slots.Tie as tie
+
+abbrev Inv-loop : tie.InvT-loop
+Inv-loop text₀ at state at₀ s₀ text at' s = (s ≤ 3) × (length text ≡ length text₀)
+
+abbrev μ-loop : tie.MeasureT-loop
+μ-loop text₀ at state at₀ s₀ text at' s = 3 - s
+
+loop-holds : tie.Need-loop-holds Inv-loop μ-loop
+loop-holds c = search needs
+
+mul-x : tie.Need-mul-x Inv-loop μ-loop
+mul-x c = search needs
+
+element-copy-out-x : tie.Need-element-copy-out-x Inv-loop μ-loop
+element-copy-out-x c = search needs
+
+say-slot-requires : tie.Need-say-slot-requires Inv-loop μ-loop
+say-slot-requires c κs = search needs
+
+say-parts-requires : tie.Need-say-parts-requires Inv-loop μ-loop
+say-parts-requires c κs = search needs
+
+add-s : tie.Need-add-s Inv-loop μ-loop
+add-s c = search needs
+
+loop-less : tie.Need-loop-less Inv-loop μ-loop
+loop-less c = search needs
+
+loop-again : tie.Need-loop-again Inv-loop μ-loop
+loop-again c = search needs
+
+same-length : tie.Need-same-length Inv-loop μ-loop
+same-length c = search needs
+
+returns : tie.Need-returns Inv-loop μ-loop
+returns c = search needs
+
+pub say-slots-spec : {M : Type 1} → statement M
+say-slots-spec =
+    tie.close
+    (tie.spec
+    Inv-loop
+    μ-loop
+    loop-holds
+    mul-x
+    element-copy-out-x
+    say-slot-requires
+    say-parts-requires
+    add-s
+    loop-less
+    loop-again
+    same-length
+    returns)

@@ -1,0 +1,251 @@
+// Lines on building: the fields of a packet, and the packet that they make.
+use lines::Name;
+use lines::Said;
+use lines::texts;
+use lines::words;
+use packet::Clear;
+use packet::Cntr;
+use packet::Kind;
+use packet::Spi;
+use packet::Tar;
+use packet::build;
+ghost use Prim.Native.Nat.{_≤_, min};
+ghost use mathlib.Core.Path.{_≡_};
+
+// A header length for the library, which takes 16 bits: a larger one is as wrong as 65,535 is.
+fn narrow(n: u32) -> u16
+    ensures { λ r. ⌜ r ≡ min n 65535 ⌝ }
+{
+    if n < 65535 { n as u16 } else { 65535 }
+}
+
+// The first seven octets of a command's fields.
+fn clear_of(head: &[u8; 13]) -> Clear {
+    Clear {
+        spi: Spi(head[0], head[1]),
+        kic: head[2],
+        kid: head[3],
+        tar: Tar(head[4], head[5], head[6]),
+    }
+}
+
+// The first three octets of a response's fields.
+fn tar_of(head: &[u8; 13]) -> Tar {
+    Tar(head[0], head[1], head[2])
+}
+
+// The counter that begins at a place of a head.
+fn cntr_at(head: &[u8; 13], at: usize) -> Cntr
+    requires { ⌜ at ≤ 8 ⌝ }
+{
+    Cntr(
+        head[at],
+        head[at + 1],
+        head[at + 2],
+        head[at + 3],
+        head[at + 4],
+    )
+}
+
+// Builds a plain command: the check field's octets end in the middle, and the data follows them.
+fn plain_command(
+    head: &[u8; 13],
+    octets: &[u8],
+    middle: usize,
+    text: &mut [u8],
+    at: usize,
+) -> usize {
+    let check = texts::first_of(octets, middle);
+    let data = arrival::own_octets(octets, middle);
+    let mut out = [0u8; 2142];
+    let written = build::build_command(
+        clear_of(head),
+        cntr_at(head, 7),
+        head[12],
+        check,
+        data,
+        &mut out,
+    );
+    texts::say_written(b"packet", written, &out, text, at)
+}
+
+// Builds a plain response, likewise.
+fn plain_response(
+    head: &[u8; 13],
+    octets: &[u8],
+    middle: usize,
+    text: &mut [u8],
+    at: usize,
+) -> usize {
+    let check = texts::first_of(octets, middle);
+    let data = arrival::own_octets(octets, middle);
+    let mut out = [0u8; 2142];
+    let written = build::build_response(
+        tar_of(head),
+        cntr_at(head, 3),
+        head[8],
+        head[9],
+        check,
+        data,
+        &mut out,
+    );
+    texts::say_written(b"packet", written, &out, text, at)
+}
+
+// Builds a ciphered command.
+fn ciphered_command(
+    head: &[u8; 13],
+    header: u16,
+    opaque: &[u8],
+    text: &mut [u8],
+    at: usize,
+) -> usize {
+    let mut out = [0u8; 2142];
+    let written = build::build_ciphered_command(clear_of(head), header, opaque, &mut out);
+    texts::say_written(b"packet", written, &out, text, at)
+}
+
+// Builds a ciphered response, likewise.
+fn ciphered_response(
+    head: &[u8; 13],
+    header: u16,
+    opaque: &[u8],
+    text: &mut [u8],
+    at: usize,
+) -> usize {
+    let mut out = [0u8; 2142];
+    let written = build::build_ciphered_response(tar_of(head), header, opaque, &mut out);
+    texts::say_written(b"packet", written, &out, text, at)
+}
+
+// The fixed fields, CHECK and DATA: a plain packet.
+fn build_plain(
+    kind: Kind,
+    lengths: &[u8],
+    line: &[u8],
+    from: usize,
+    work: &mut [u8],
+    text: &mut [u8],
+    at: usize,
+) -> Said {
+    let mut head = [0u8; 13];
+    let fields = words::fields_from(line, from, lengths, &mut head);
+    let two = words::two_from(line, fields.next, work);
+    if !(fields.understood & two.understood) {
+        return texts::not_understood(at);
+    }
+    let end = two.end;
+    match kind {
+        Kind::Command => texts::understood(plain_command(
+            &head,
+            &work[..end],
+            two.middle,
+            text,
+            at,
+        )),
+        Kind::Response => texts::understood(plain_response(
+            &head,
+            &work[..end],
+            two.middle,
+            text,
+            at,
+        )),
+    }
+}
+
+// The fields in the clear, HEADERLENGTH and OPAQUE: a ciphered packet.
+fn build_ciphered(
+    kind: Kind,
+    lengths: &[u8],
+    line: &[u8],
+    from: usize,
+    work: &mut [u8],
+    text: &mut [u8],
+    at: usize,
+) -> Said {
+    let mut head = [0u8; 13];
+    let fields = words::fields_from(line, from, lengths, &mut head);
+    let header = words::number_from(line, fields.next);
+    let opaque = words::last_octets(line, header.next, work);
+    if !(fields.understood & header.understood & opaque.understood) {
+        return texts::not_understood(at);
+    }
+    let n = opaque.count;
+    let length = narrow(header.value);
+    match kind {
+        Kind::Command => texts::understood(ciphered_command(&head, length, &work[..n], text, at)),
+        Kind::Response => texts::understood(ciphered_response(&head, length, &work[..n], text, at)),
+    }
+}
+
+// `plain` or `ciphered`, and the fields of such a packet, whose lengths are given for either.
+fn build_kind(
+    kind: Kind,
+    plain: &[u8],
+    ciphered: &[u8],
+    line: &[u8],
+    from: usize,
+    work: &mut [u8],
+    text: &mut [u8],
+    at: usize,
+) -> Said {
+    let mode = words::mode_from(line, from);
+    if !mode.understood {
+        return texts::not_understood(at);
+    }
+    if mode.ciphered {
+        return build_ciphered(kind, ciphered, line, mode.next, work, text, at);
+    }
+    build_plain(kind, plain, line, mode.next, work, text, at)
+}
+
+// `build command plain SPI KIC KID TAR CNTR PCNTR CHECK DATA`, `build command ciphered SPI KIC KID TAR HEADERLENGTH OPAQUE`.
+fn build_command_line(
+    line: &[u8],
+    from: usize,
+    work: &mut [u8],
+    text: &mut [u8],
+    at: usize,
+) -> Said {
+    build_kind(
+        Kind::Command,
+        b"\x02\x01\x01\x03\x05\x01",
+        b"\x02\x01\x01\x03",
+        line,
+        from,
+        work,
+        text,
+        at,
+    )
+}
+
+// `build response plain TAR CNTR PCNTR STATUS CHECK DATA`, `build response ciphered TAR HEADERLENGTH OPAQUE`.
+fn build_response_line(
+    line: &[u8],
+    from: usize,
+    work: &mut [u8],
+    text: &mut [u8],
+    at: usize,
+) -> Said {
+    build_kind(
+        Kind::Response,
+        b"\x03\x05\x01\x01",
+        b"\x03",
+        line,
+        from,
+        work,
+        text,
+        at,
+    )
+}
+
+// `build ..`: its kind is the next word.
+pub fn build_line(line: &[u8], from: usize, work: &mut [u8], text: &mut [u8], at: usize) -> Said {
+    let kind = words::name_from(line, from);
+    let name = kind.name;
+    match name {
+        Name::Command => build_command_line(line, kind.next, work, text, at),
+        Name::Response => build_response_line(line, kind.next, work, text, at),
+        _ => texts::not_understood(at),
+    }
+}

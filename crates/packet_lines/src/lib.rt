@@ -1,0 +1,239 @@
+// Lines on packets: parsing, and the octets that a checksum covers.
+use lines::Name;
+use lines::Said;
+use lines::texts;
+use lines::words;
+use packet::Clear;
+use packet::Cntr;
+use packet::Command;
+use packet::CommandBody;
+use packet::Opaque;
+use packet::ParsedCommand;
+use packet::ParsedResponse;
+use packet::PlainCommand;
+use packet::PlainResponse;
+use packet::Response;
+use packet::ResponseBody;
+use packet::Tar;
+use packet::checksum;
+use packet::read;
+use packet::show;
+
+// ---- fields as text
+fn say_tar(tar: Tar, text: &mut [u8], at: usize) -> usize {
+    let octets = [tar.0, tar.1, tar.2];
+    texts::say_field(&octets, text, at)
+}
+
+fn say_cntr(cntr: Cntr, text: &mut [u8], at: usize) -> usize {
+    let octets = [cntr.0, cntr.1, cntr.2, cntr.3, cntr.4];
+    texts::say_field(&octets, text, at)
+}
+
+fn say_octet(octet: u8, text: &mut [u8], at: usize) -> usize {
+    let octets = [octet];
+    texts::say_field(&octets, text, at)
+}
+
+fn say_clear(clear: Clear, text: &mut [u8], at: usize) -> usize {
+    let spi = clear.spi;
+    let octets = [spi.0, spi.1];
+    let at = texts::say_field(&octets, text, at);
+    let at = say_octet(clear.kic, text, at);
+    let at = say_octet(clear.kid, text, at);
+    say_tar(clear.tar, text, at)
+}
+
+// The check field and the data, which end a plain packet's line.
+fn say_rest(check: &[u8], data: &[u8], text: &mut [u8], at: usize) -> usize {
+    let at = texts::say_field(check, text, at);
+    let at = texts::say_field(data, text, at);
+    texts::say_end(text, at)
+}
+
+// The header length and the opaque octets, which end a ciphered packet's line.
+fn say_opaque(body: Opaque, octets: &[u8], text: &mut [u8], at: usize) -> usize {
+    let at = texts::say_count(body.header as usize, text, at);
+    let at = texts::say_field(octets, text, at);
+    texts::say_end(text, at)
+}
+
+// ---- parsing
+fn say_plain_command(
+    packet: &[u8],
+    clear: Clear,
+    body: PlainCommand,
+    text: &mut [u8],
+    at: usize,
+) -> usize {
+    let at = texts::say(b"plain", text, at);
+    let at = say_clear(clear, text, at);
+    let at = say_cntr(body.cntr, text, at);
+    let at = say_octet(body.pcntr, text, at);
+    say_rest(
+        show::command_check(packet),
+        show::command_data(packet),
+        text,
+        at,
+    )
+}
+
+fn say_ciphered_command(
+    packet: &[u8],
+    clear: Clear,
+    body: Opaque,
+    text: &mut [u8],
+    at: usize,
+) -> usize {
+    let at = texts::say(b"ciphered", text, at);
+    let at = say_clear(clear, text, at);
+    say_opaque(body, show::command_opaque(packet), text, at)
+}
+
+fn say_command(packet: &[u8], command: Command, text: &mut [u8], at: usize) -> usize {
+    let clear = command.clear;
+    let body = command.body;
+    match body {
+        CommandBody::Plain(plain) => say_plain_command(packet, clear, plain, text, at),
+        CommandBody::Ciphered(opaque) => say_ciphered_command(packet, clear, opaque, text, at),
+    }
+}
+
+fn parse_command(packet: &[u8], text: &mut [u8], at: usize) -> usize {
+    let parsed = read::parse_command(packet);
+    match parsed {
+        ParsedCommand::Fields(command) => say_command(packet, command, text, at),
+        ParsedCommand::Refused(refusal) => texts::say_refusal(refusal, text, at),
+    }
+}
+
+fn say_plain_response(
+    packet: &[u8],
+    tar: Tar,
+    body: PlainResponse,
+    text: &mut [u8],
+    at: usize,
+) -> usize {
+    let at = texts::say(b"plain", text, at);
+    let at = say_tar(tar, text, at);
+    let at = say_cntr(body.cntr, text, at);
+    let at = say_octet(body.pcntr, text, at);
+    let at = say_octet(body.status, text, at);
+    say_rest(
+        show::response_check(packet, false),
+        show::response_data(packet, false),
+        text,
+        at,
+    )
+}
+
+fn say_ciphered_response(
+    packet: &[u8],
+    tar: Tar,
+    body: Opaque,
+    text: &mut [u8],
+    at: usize,
+) -> usize {
+    let at = texts::say(b"ciphered", text, at);
+    let at = say_tar(tar, text, at);
+    say_opaque(body, show::response_opaque(packet, true), text, at)
+}
+
+fn say_response(packet: &[u8], response: Response, text: &mut [u8], at: usize) -> usize {
+    let tar = response.tar;
+    let body = response.body;
+    match body {
+        ResponseBody::Plain(plain) => say_plain_response(packet, tar, plain, text, at),
+        ResponseBody::Ciphered(opaque) => say_ciphered_response(packet, tar, opaque, text, at),
+    }
+}
+
+fn parse_response(packet: &[u8], ciphered: bool, text: &mut [u8], at: usize) -> usize {
+    let parsed = read::parse_response(packet, ciphered);
+    match parsed {
+        ParsedResponse::Fields(response) => say_response(packet, response, text, at),
+        ParsedResponse::Refused(refusal) => texts::say_refusal(refusal, text, at),
+    }
+}
+
+// `command PACKET`.
+pub fn command_line(line: &[u8], from: usize, work: &mut [u8], text: &mut [u8], at: usize) -> Said {
+    let packet = words::last_octets(line, from, work);
+    if !packet.understood {
+        return texts::not_understood(at);
+    }
+    let n = packet.count;
+    texts::understood(parse_command(&work[..n], text, at))
+}
+
+// `response plain PACKET`, `response ciphered PACKET`.
+pub fn response_line(
+    line: &[u8],
+    from: usize,
+    work: &mut [u8],
+    text: &mut [u8],
+    at: usize,
+) -> Said {
+    let mode = words::mode_from(line, from);
+    let packet = words::last_octets(line, mode.next, work);
+    if !(mode.understood & packet.understood) {
+        return texts::not_understood(at);
+    }
+    let n = packet.count;
+    texts::understood(parse_response(&work[..n], mode.ciphered, text, at))
+}
+
+// ---- checksum octets
+// `checksum command PACKET`.
+fn command_checksum_line(
+    line: &[u8],
+    from: usize,
+    work: &mut [u8],
+    text: &mut [u8],
+    at: usize,
+) -> Said {
+    let packet = words::last_octets(line, from, work);
+    if !packet.understood {
+        return texts::not_understood(at);
+    }
+    let n = packet.count;
+    let mut out = [0u8; 2145];
+    let written = checksum::command_checksum(&work[..n], &mut out);
+    texts::understood(texts::say_written(b"octets", written, &out, text, at))
+}
+
+// `checksum response plain PACKET`, `checksum response ciphered PACKET`.
+fn response_checksum_line(
+    line: &[u8],
+    from: usize,
+    work: &mut [u8],
+    text: &mut [u8],
+    at: usize,
+) -> Said {
+    let mode = words::mode_from(line, from);
+    let packet = words::last_octets(line, mode.next, work);
+    if !(mode.understood & packet.understood) {
+        return texts::not_understood(at);
+    }
+    let n = packet.count;
+    let mut out = [0u8; 2145];
+    let written = checksum::response_checksum(&work[..n], mode.ciphered, &mut out);
+    texts::understood(texts::say_written(b"octets", written, &out, text, at))
+}
+
+// `checksum ..`: the kind is the next word.
+pub fn checksum_line(
+    line: &[u8],
+    from: usize,
+    work: &mut [u8],
+    text: &mut [u8],
+    at: usize,
+) -> Said {
+    let kind = words::name_from(line, from);
+    let name = kind.name;
+    match name {
+        Name::Command => command_checksum_line(line, kind.next, work, text, at),
+        Name::Response => response_checksum_line(line, kind.next, work, text, at),
+        _ => texts::not_understood(at),
+    }
+}
