@@ -5,7 +5,7 @@ use lines::Name;
 use lines::Said;
 use lines::texts;
 use lines::words;
-use series::Record;
+use slots::Record;
 
 // What a line that may change the record comes to.
 pub struct Answered {

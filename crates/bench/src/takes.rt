@@ -7,8 +7,8 @@ use lines::texts;
 use lines::words;
 use packet::Kind;
 use series::Answer;
-use series::Record;
-use series::Slot;
+use slots::Record;
+use slots::Slot;
 
 // ---- answers as text
 // `kept SLOT no` or `kept SLOT displaced`.
@@ -120,7 +120,7 @@ fn fresh_of(kind: Kind, cells: &mut [u8], out: &mut [u8], text: &mut [u8], at: u
     pieces::fill(cells, 0);
     pieces::fill(out, 0);
     Answered {
-        record: series::slots::fresh(kind),
+        record: slots::find::fresh(kind),
         understood: true,
         end: texts::say(b"fresh\n", text, at),
     }

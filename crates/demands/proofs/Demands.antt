@@ -1,7 +1,7 @@
 -- The three demands hold: each theorem at three slots.
 use native.Mathlib.Omega.{arith}
 use Prim.Native.Nat.{_<_}
-use Rattle.series.specs.Slots.{slotCount}
+use Rattle.slots.specs.Slots.{slotCount}
 use Rattle.demands.specs.Demands.{Demand1, Demand2, Demand3}
 use Rattle.demands.proofs.Calls as calls
 use Rattle.demands.proofs.Wake as wake

@@ -10,9 +10,9 @@ use Rattle.arrival.specs.Header.{elementsAfter, summary}
 use Rattle.arrival.specs.Message.{judged, readMessage}
 use Rattle.arrival.specs.Page.{readPage}
 use Rattle.arrival.specs.Keys.{keyFormed, lengthFits}
-use Rattle.series.specs.Below.{allBelow, anyBelow, countBelow}
-use Rattle.series.specs.Slots.{find, aged, closed, toFront, freed}
-use Rattle.series.specs.Formed.{allZero, usedFormed, slotFormed, keysDiffer, ranked, slotsFormed}
+use Rattle.slots.specs.Below.{allBelow, anyBelow, countBelow}
+use Rattle.slots.specs.Slots.{find, aged, closed, toFront, freed}
+use Rattle.slots.specs.Formed.{allZero, usedFormed, slotFormed, keysDiffer, ranked, slotsFormed}
 use Rattle.series.specs.Cells.{cellPart, joined, joinedOctets, packetIn}
 use Rattle.series.specs.Taking.{step, takePart, takeMessage, takePage}
 

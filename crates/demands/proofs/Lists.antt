@@ -11,10 +11,10 @@ use lib.Dec.{eqb}
 use borrow.Author.Tests.{eq-eqb}
 use Rattle.octets.specs.Tests.{clash, Same, same, other, same?}
 use Rattle.arrival.specs.declared.Key.{Key}
-use Rattle.series.specs.Below.{allBelow}
-use Rattle.series.specs.BelowLaws.{all-at, all-same}
-use Rattle.series.specs.Slots.{sameKey}
-use Rattle.series.specs.FrontLaws.{same-key, key-same}
+use Rattle.slots.specs.Below.{allBelow}
+use Rattle.slots.specs.BelowLaws.{all-at, all-same}
+use Rattle.slots.specs.Slots.{sameKey}
+use Rattle.slots.specs.FrontLaws.{same-key, key-same}
 use Rattle.series.specs.Cells.{joined}
 use Rattle.demands.specs.Wake.{concat, elem, elemKey, add, addKey, complete}
 

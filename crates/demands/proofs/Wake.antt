@@ -14,16 +14,16 @@ use Rattle.packet.specs.Packets.{mostOctets, wellFormed}
 use Rattle.arrival.specs.declared.Key.{Key}
 use Rattle.arrival.specs.Arrivals.{Brought, single, part}
 use Rattle.arrival.specs.Laws.{Admitted, message-part, page-part}
-use Rattle.series.specs.BelowLaws.{all-at, all-hold}
-use Rattle.series.specs.Slots.{sameKey}
+use Rattle.slots.specs.BelowLaws.{all-at, all-hold}
+use Rattle.slots.specs.Slots.{sameKey}
 use Rattle.series.specs.Cells.{packetIn}
 use Rattle.series.specs.Taking.{State, After, state, handOut, acted, step, takePart, taken}
 use Rattle.series.specs.Calls.{Input, message, page, read, octetsOf}
 use Rattle.series.specs.CaseLaws.{Lacks, Case, case-of}
-use Rattle.series.specs.FrontLaws.{same-key, key-same}
-use Rattle.series.specs.FormedLaws.{Formed}
+use Rattle.slots.specs.FrontLaws.{same-key, key-same}
+use Rattle.slots.specs.FormedLaws.{Formed}
 use Rattle.series.specs.KeepLaws.{Sound}
-use Rattle.series.specs.declared.Record.{Record}
+use Rattle.slots.specs.declared.Record.{Record}
 use Rattle.demands.specs.Runs.{Call, Store, outcome, left, Octets, Proper, Each}
 use Rattle.demands.specs.Wake.{Cut, elem, add, addKey, complete, counts, Seen, seenPart, seenAfter, seen, follow, EachWith, Fair, Repeated, Waits, Wakes, Served, Start, begin, WakeWindow, Comes, PacketComes}
 use Rattle.demands.proofs.Lists.{elem-add, add-old}

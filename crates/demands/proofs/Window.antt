@@ -19,14 +19,14 @@ use Rattle.arrival.specs.declared.Key.{Key}
 use Rattle.arrival.specs.Message.{mostParts}
 use Rattle.arrival.specs.Keys.{ofPages}
 use Rattle.arrival.specs.Laws.{Admitted}
-use Rattle.series.specs.declared.Slot.{Slot}
-use Rattle.series.specs.Below.{allBelow}
-use Rattle.series.specs.BelowLaws.{all-at, all-same, count-at-most}
-use Rattle.series.specs.Slots.{slotAt, freeSlot, opened, used, atRank, heldAt, lengthAt, withPart, withSlots, aged, closed, toFront, freed}
-use Rattle.series.specs.Formed.{markAt}
-use Rattle.series.specs.RankLaws.{taken, pos-taken, aged-taken, closed-taken, rank-bound, ranks-differ}
-use Rattle.series.specs.FrontLaws.{front-here, front-there, freed-here, freed-there}
-use Rattle.series.specs.FormedLaws.{Formed, UsedSlot, slot-tells}
+use Rattle.slots.specs.declared.Slot.{Slot}
+use Rattle.slots.specs.Below.{allBelow}
+use Rattle.slots.specs.BelowLaws.{all-at, all-same, count-at-most}
+use Rattle.slots.specs.Slots.{slotAt, freeSlot, opened, used, atRank, heldAt, lengthAt, withPart, withSlots, aged, closed, toFront, freed}
+use Rattle.slots.specs.Formed.{markAt}
+use Rattle.slots.specs.RankLaws.{taken, pos-taken, aged-taken, closed-taken, rank-bound, ranks-differ}
+use Rattle.slots.specs.FrontLaws.{front-here, front-there, freed-here, freed-there}
+use Rattle.slots.specs.FormedLaws.{Formed, UsedSlot, slot-tells}
 use Rattle.series.specs.PartLaws.{total-bounds}
 use Rattle.series.specs.Cells.{cellOctets, cellsSize, cellAt, cellPart, joined, partOf, joinedOctets, packetIn}
 use Rattle.series.specs.CellLaws.{part-by-length, cell-there}

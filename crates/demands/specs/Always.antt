@@ -4,8 +4,8 @@ use mathlib.Core.Path.{_≡_}
 use mathlib.Core.Bool.{true}
 use mathlib.Core.List.{List}
 use Rattle.packet.specs.declared.Kind.{Kind}
-use Rattle.series.specs.Slots.{slotAt}
-use Rattle.series.specs.Formed.{recordFormed}
+use Rattle.slots.specs.Slots.{slotAt}
+use Rattle.slots.specs.Formed.{recordFormed}
 use Rattle.series.specs.Calls.{octetsOf}
 use Rattle.demands.specs.Runs.{Call, fresh, run, Octets, Each}
 

@@ -9,9 +9,9 @@ use Rattle.octets.specs.Octets.{placed}
 use Rattle.packet.specs.declared.Kind.the-variants.{Command}
 use Rattle.packet.specs.Packets.{mostOctets}
 use Rattle.arrival.specs.declared.Key.{Key}
-use Rattle.series.specs.declared.Slot.{Slot}
-use Rattle.series.specs.declared.Record.{Record}
-use Rattle.series.specs.Slots.{slotCount, freeSlot, freshRecord}
+use Rattle.slots.specs.declared.Slot.{Slot}
+use Rattle.slots.specs.declared.Record.{Record}
+use Rattle.slots.specs.Slots.{slotCount, freeSlot, freshRecord}
 use Rattle.series.specs.Cells.{cellsSize}
 use Rattle.series.specs.Taking.{State, After, Answer, kept, packet, refused, state, after}
 use Rattle.series.specs.Calls.{Input, message, page, take}

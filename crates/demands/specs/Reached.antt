@@ -8,7 +8,7 @@ use lib.ListN.{length, take, drop, replicate}
 use Rattle.packet.specs.declared.Kind.the-variants.{Command}
 use Rattle.packet.specs.Packets.{mostOctets}
 use Rattle.arrival.specs.declared.Key.{Key}
-use Rattle.series.specs.Slots.{slotCount}
+use Rattle.slots.specs.Slots.{slotCount}
 use Rattle.series.specs.Cells.{cellsSize}
 use Rattle.series.specs.Taking.{After, Answer, kept, packet}
 use Rattle.series.specs.Calls.{message}

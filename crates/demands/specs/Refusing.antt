@@ -10,7 +10,7 @@ use Rattle.packet.specs.Refusals as outcome
 use Rattle.packet.specs.Packets.{Fields, parsing, shownData, shownCheck, shownOpaque, built, checksummed}
 use Rattle.arrival.specs.declared.Key.{Key}
 use Rattle.arrival.specs.Arrivals.{part}
-use Rattle.series.specs.Slots.{slotAt, freed, withSlots}
+use Rattle.slots.specs.Slots.{slotAt, freed, withSlots}
 use Rattle.series.specs.Taking.{State, After, refused, state, completes}
 use Rattle.series.specs.CaseLaws.{Bears}
 use Rattle.series.specs.Calls.{Input, read, take}

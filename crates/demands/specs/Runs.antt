@@ -5,8 +5,8 @@ use mathlib.Core.List.{List, [], _∷_, _++_}
 use lib.ListN.{length, getD}
 use Rattle.packet.specs.declared.Kind.{Kind}
 use Rattle.packet.specs.Packets.{mostOctets}
-use Rattle.series.specs.declared.Record.{Record}
-use Rattle.series.specs.Slots.{freshRecord}
+use Rattle.slots.specs.declared.Record.{Record}
+use Rattle.slots.specs.Slots.{freshRecord}
 use Rattle.series.specs.Cells.{cellsSize}
 use Rattle.series.specs.Taking.{State, After, state}
 use Rattle.series.specs.Calls.{Input, octetsOf, take}

@@ -12,8 +12,8 @@ use Rattle.packet.specs.Packets.{wellFormed}
 use Rattle.arrival.specs.declared.Key.{Key}
 use Rattle.arrival.specs.Arrivals.{Brought, single, part}
 use Rattle.arrival.specs.Keys.{ofPages}
-use Rattle.series.specs.Below.{allBelow}
-use Rattle.series.specs.Slots.{slotAt, sameKey}
+use Rattle.slots.specs.Below.{allBelow}
+use Rattle.slots.specs.Slots.{slotAt, sameKey}
 use Rattle.series.specs.Cells.{cellsSize, pagesAllow}
 use Rattle.series.specs.Taking.{After, Answer, kept, heldAlready, packet, refused}
 use Rattle.series.specs.CaseLaws.{Bears, Lacks}

@@ -1,8 +1,8 @@
 // Whether two records are the same in every field, mark and length.
 use arrival::Key;
 use packet::Kind;
-use series::Record;
-use series::Slot;
+use slots::Record;
+use slots::Slot;
 
 // Which of the two kinds it is.
 fn is_command(kind: Kind) -> bool {

@@ -3,8 +3,8 @@ use arrival::Key;
 use arrival::MessageIdentifier;
 use arrival::SerialNumber;
 use packet::Kind;
-use series::Record;
-use series::Slot;
+use slots::Record;
+use slots::Slot;
 
 // ---- a good record
 // The key of a short message, and that of pages.
@@ -76,7 +76,7 @@ pub fn good() -> Record {
     let narrow = part(part(slot(1, message_key(5, 8, 0x2A), 16), 0, 132), 1, 134);
     let wide = part(slot(2, message_key(5, 16, 0x2A), 2), 0, 131);
     let paged = part(slot(3, page_key(7, 0x1080), 15), 14, 82);
-    let r = series::slots::fresh(Kind::Command);
+    let r = slots::find::fresh(Kind::Command);
     with(with(with(r, 0, narrow), 1, wide), 2, paged)
 }
 

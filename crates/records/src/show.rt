@@ -4,9 +4,9 @@ use crate::alike::same_record;
 use libc::STDOUT_FILENO;
 use packet::Refusal;
 use series::Answer;
-use series::Record;
-use series::Slot;
 use series::Taken;
+use slots::Record;
+use slots::Slot;
 ghost use Prim.Native.Nat.{_≤_};
 
 // ---- words and numbers

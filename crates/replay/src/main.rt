@@ -6,7 +6,7 @@ use lines::Gathered;
 use lines::pieces;
 use lines::texts;
 use packet::Kind;
-use series::Record;
+use slots::Record;
 
 const MOST: usize = 9000;
 
@@ -28,7 +28,7 @@ struct Session {
 
 fn start() -> Session {
     Session {
-        record: series::slots::fresh(Kind::Command),
+        record: slots::find::fresh(Kind::Command),
         lines: 0,
         line: pieces::nothing(),
         end: 0,

@@ -15,7 +15,7 @@ use Rattle.packet.specs.declared.Kind.{Kind}
 use Rattle.packet.specs.Packets.{formedBy}
 use Rattle.arrival.specs.Message.{mostParts}
 use Rattle.series.specs.declared.packets.Front.{Front}
-use Rattle.series.specs.Slots.{slotCount}
+use Rattle.slots.specs.Slots.{slotCount}
 use Rattle.series.specs.Cells.{cellOctets, cellsSize, joined, pagesAllow}
 use Rattle.series.specs.Handing.{Short, pieceOf, frontOf, octetAfter, frontAfter, sizeIn, holdsPacket, sizeBy}
 use Rattle.series.proofs.CellLaws.{part-from, same-as, stored, short-at, piece-new, piece-held, piece-length, joined-none, joined-more, joined-length, start-written, Written, written-none, written-more}

@@ -1,6 +1,5 @@
-pub mod SlotLaws
-pub mod SlotSteps
-pub mod FormedSteps
+pub mod OrderLaws
+pub mod OrderSteps
 pub mod CellLaws
 pub mod FrontLaws
 pub mod CellSteps

@@ -21,14 +21,14 @@ use Rattle.arrival.specs.Arrivals.{toldArrival}
 use Rattle.arrival.specs.Message.{readMessage}
 use Rattle.arrival.specs.Page.{readPage}
 use Rattle.arrival.specs.Laws.{Admitted, message-part, message-single, page-part, page-single}
-use Rattle.series.specs.declared.Slot.{Slot}
-use Rattle.series.specs.declared.Record.{Record}
-use Rattle.series.specs.BelowLaws.{count-at-most}
-use Rattle.series.specs.Slots.{slotCount, slotAt, used, sameKey, bears, find}
-use Rattle.series.specs.Formed.{recordFormed}
-use Rattle.series.specs.RankLaws.{pos-taken, rank-bound}
-use Rattle.series.specs.FrontLaws.{Found, hit, miss, find?}
-use Rattle.series.specs.FormedLaws.{UsedSlot, formed-tells, slot-tells}
+use Rattle.slots.specs.declared.Slot.{Slot}
+use Rattle.slots.specs.declared.Record.{Record}
+use Rattle.slots.specs.BelowLaws.{count-at-most}
+use Rattle.slots.specs.Slots.{slotCount, slotAt, used, sameKey, bears, find}
+use Rattle.slots.specs.Formed.{recordFormed}
+use Rattle.slots.specs.RankLaws.{pos-taken, rank-bound}
+use Rattle.slots.specs.FrontLaws.{Found, hit, miss, find?}
+use Rattle.slots.specs.FormedLaws.{UsedSlot, formed-tells, slot-tells}
 use Rattle.series.specs.PartLaws.{total-bounds}
 use Rattle.series.specs.Cells.{cellsSize}
 use Rattle.series.specs.Taking.{state, unfit}

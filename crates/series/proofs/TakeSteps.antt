@@ -22,27 +22,25 @@ use Rattle.arrival.specs.Message.{mostParts, readMessage}
 use Rattle.arrival.specs.Page.{readPage}
 use Rattle.arrival.specs.Keys.{ofPages}
 use Rattle.arrival.specs.Laws.{Admitted}
-use Rattle.series.specs.declared.Slot.{Slot}
-use Rattle.series.specs.declared.Record.{Record}
+use Rattle.slots.specs.declared.Slot.{Slot}
+use Rattle.slots.specs.declared.Record.{Record}
 use Rattle.series.specs.declared.packets.Size.{Size}
 use Rattle.series.specs.declared.packets.Size.the-variants as size
-use Rattle.series.specs.declared.slots.Found.{Found}
-use Rattle.series.specs.declared.slots.Found.the-variants.{At, Nothing}
+use Rattle.slots.specs.declared.find.Found.{Found}
+use Rattle.slots.specs.declared.find.Found.the-variants.{At, Nothing}
 use Rattle.series.specs.declared.take.Opening.{Opening}
 use Rattle.series.specs.declared.take.Step as code
 use Rattle.series.specs.declared.take.Step.the-variants.{Refuses, Repeats, Keeps, Finishes}
-use Rattle.series.specs.BelowLaws.{all-more}
-use Rattle.series.specs.Found.{toldFound}
-use Rattle.series.specs.Slots.{slotCount, slotAt, bears, isFree, find, leastRecent, opened, heldAt, lengthAt, withPart, toFront, freed, withSlots}
-use Rattle.series.specs.Formed.{recordFormed}
+use Rattle.slots.specs.BelowLaws.{all-from, all-more, all-through}
+use Rattle.slots.specs.Found.{toldFound, found-inside}
+use Rattle.slots.specs.Slots.{slotCount, slotAt, bears, isFree, find, leastRecent, opened, heldAt, lengthAt, withPart, toFront, freed, withSlots}
+use Rattle.slots.specs.Formed.{recordFormed}
 use Rattle.series.specs.Cells.{cellsSize, cellAt, cellPart, joinedOctets, packetIn}
 use Rattle.series.specs.Handing.{Short, cellStart, seriesOctets, toldSize, lengthIn, outputWith}
 use Rattle.series.specs.Taking.{State, Answer, After, kept, heldAlready, packet, refused, state, after, handOut, completes, Step, refuses, repeats, keeps, finishes, stepNew, step, acted, takePart, takeMessage, takePage}
 use Rattle.series.specs.KeepLaws.{Sound}
 use Rattle.series.specs.Deciding.{allWith, toldStep, stepAt, openingIn, newPlace, answerOf, Room, Whole, Fitting, takenWhereFit}
 use Rattle.series.proofs.CellLaws.{cell-part, joined-pieces, short-at}
-use Rattle.series.proofs.FormedSteps.{all-from, all-through}
-use Rattle.series.proofs.SlotSteps.{found-inside}
 use Rattle.series.proofs.TakeLaws as law
 use Rattle.series.proofs.TakeLaws.{message-fitting, page-fitting}
 

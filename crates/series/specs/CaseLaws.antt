@@ -12,13 +12,13 @@ use Rattle.octets.specs.Octets.{sameOctets}
 use Rattle.octets.specs.Laws.{same-true, same-false}
 use Rattle.octets.specs.Tests.{clash, both}
 use Rattle.arrival.specs.declared.Key.{Key}
-use Rattle.series.specs.declared.Slot.{Slot}
-use Rattle.series.specs.Slots.{slotAt, opened, used, sameKey, bears, isFree, find, isLeastRecent, slotOr, heldAt}
+use Rattle.slots.specs.declared.Slot.{Slot}
+use Rattle.slots.specs.Slots.{slotAt, opened, used, sameKey, bears, isFree, find, isLeastRecent, slotOr, heldAt}
 use Rattle.series.specs.Cells.{cellPart}
 use Rattle.series.specs.Taking.{State, Step, refuses, repeats, keeps, finishes, completes, stepIn, stepNew, stepFor, step}
-use Rattle.series.specs.RankLaws.{pos-taken, last-rank}
-use Rattle.series.specs.FrontLaws.{same-key, key-same, Found, hit, miss, find?}
-use Rattle.series.specs.FormedLaws.{Formed}
+use Rattle.slots.specs.RankLaws.{pos-taken, last-rank}
+use Rattle.slots.specs.FrontLaws.{same-key, key-same, Found, hit, miss, find?}
+use Rattle.slots.specs.FormedLaws.{Formed}
 
 -- slot i bears a series of that key; no slot does
 pub record Bears (n : ℕ) (xs : List Slot) (X : Key) (i : ℕ) : Type 0 where

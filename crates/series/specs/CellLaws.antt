@@ -13,8 +13,8 @@ use lib.Seq.{take-append-le, drop-append-le, take-at, drop-at, take-all, take-ta
 use Rattle.octets.specs.Octets.{placed}
 use Rattle.octets.specs.Laws.{length-placed}
 use Rattle.arrival.specs.Message.{mostParts}
-use Rattle.series.specs.declared.Slot.{Slot}
-use Rattle.series.specs.Slots.{lengthAt}
+use Rattle.slots.specs.declared.Slot.{Slot}
+use Rattle.slots.specs.Slots.{lengthAt}
 use Rattle.series.specs.Cells.{cellOctets, cellsSize, cellAt, cellPart, joined}
 
 -- ---- octets put at a place: there they are read, elsewhere what stood there

@@ -10,8 +10,8 @@ use Rattle.packet.specs.declared.Kind.{Kind}
 use Rattle.packet.specs.Packets.{cpl, wellFormed}
 use Rattle.arrival.specs.Message.{mostParts}
 use Rattle.arrival.specs.Page.{pageContent}
-use Rattle.series.specs.declared.Slot.{Slot}
-use Rattle.series.specs.Slots.{slotAt, lengthAt}
+use Rattle.slots.specs.declared.Slot.{Slot}
+use Rattle.slots.specs.Slots.{slotAt, lengthAt}
 
 -- "Cells: one lent buffer of 6,432 octets (3 × 16 × 134)"
 abbrev pub cellOctets : ℕ

@@ -14,13 +14,13 @@ use Rattle.arrival.specs.declared.Arrival as arrival
 use Rattle.arrival.specs.Arrivals.{Brought}
 use Rattle.arrival.specs.Message.{mostParts}
 use Rattle.arrival.specs.Laws.{Admitted}
-use Rattle.series.specs.declared.Slot.{Slot}
-use Rattle.series.specs.declared.Record.{Record}
+use Rattle.slots.specs.declared.Slot.{Slot}
+use Rattle.slots.specs.declared.Record.{Record}
 use Rattle.series.specs.declared.take.Opening.{Opening}
 use Rattle.series.specs.declared.take.Step as declared
 use Rattle.series.specs.declared.take.Step.the-variants.{Refuses, Repeats, Keeps, Finishes}
-use Rattle.series.specs.Below.{allBelow}
-use Rattle.series.specs.Slots.{slotCount, slotAt, noKey, isFree, find, leastRecent, freshRecord}
+use Rattle.slots.specs.Below.{allBelow}
+use Rattle.slots.specs.Slots.{slotCount, slotAt, noKey, isFree, find, leastRecent, freshRecord}
 use Rattle.series.specs.Cells.{cellOctets, cellsSize, joinedOctets}
 use Rattle.series.specs.Handing.{Place, Short}
 use Rattle.series.specs.Taking.{State, After, Answer, refused, packet, state, refuse, taken, unfit, Step, refuses, repeats, keeps, finishes, stepIn}

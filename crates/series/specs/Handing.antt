@@ -13,7 +13,7 @@ use Rattle.arrival.specs.Message.{mostParts}
 use Rattle.series.specs.declared.packets.Front.{Front}
 use Rattle.series.specs.declared.packets.Size.{Size}
 use Rattle.series.specs.declared.packets.Size.the-variants as size
-use Rattle.series.specs.Slots.{slotCount}
+use Rattle.slots.specs.Slots.{slotCount}
 use Rattle.series.specs.Cells.{cellOctets, cellAt, joined, pagesAllow}
 
 -- ---- cells

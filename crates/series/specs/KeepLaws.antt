@@ -17,11 +17,11 @@ use Rattle.arrival.specs.Arrivals.{Brought, single, part}
 use Rattle.arrival.specs.Message.{mostParts}
 use Rattle.arrival.specs.Keys.{ofPages, room, lengthFits}
 use Rattle.arrival.specs.Laws.{Admitted}
-use Rattle.series.specs.declared.Slot.{Slot}
-use Rattle.series.specs.declared.Record.{Record}
-use Rattle.series.specs.Slots.{slotAt, opened, atRank, withPart, heldAt, toFront, freed, withSlots}
-use Rattle.series.specs.Formed.{slotFormed, recordFormed}
-use Rattle.series.specs.FormedLaws.{Formed, UsedSlot, formed-tells, slot-tells, slot-front, front-formed, free-formed}
+use Rattle.slots.specs.declared.Slot.{Slot}
+use Rattle.slots.specs.declared.Record.{Record}
+use Rattle.slots.specs.Slots.{slotAt, opened, atRank, withPart, heldAt, toFront, freed, withSlots}
+use Rattle.slots.specs.Formed.{slotFormed, recordFormed}
+use Rattle.slots.specs.FormedLaws.{Formed, UsedSlot, formed-tells, slot-tells, slot-front, front-formed, free-formed}
 use Rattle.series.specs.PartLaws.{total-bounds, ready-held, ready-opened, part-more}
 use Rattle.series.specs.CaseLaws.{Bears, Lacks, Case, other-total, other-octets, again, last, more, opens, displaces, case-of}
 use Rattle.series.specs.Cells.{cellOctets, cellsSize, joinedOctets, packetIn}

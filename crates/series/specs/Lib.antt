@@ -1,12 +1,3 @@
-pub mod Below
-pub mod BelowLaws
-pub mod Slots
-pub mod RankLaws
-pub mod FrontLaws
-pub mod Found
-pub mod Formed
-pub mod FormedLaws
-pub mod FormedPieces
 pub mod Cells
 pub mod Taking
 pub mod PartLaws

@@ -12,12 +12,12 @@ use Rattle.packet.specs.declared.Kind.{Kind}
 use Rattle.arrival.specs.declared.Key.{Key}
 use Rattle.arrival.specs.Message.{mostParts}
 use Rattle.arrival.specs.Keys.{ofPages, keyFormed, totalFits, lengthFits}
-use Rattle.series.specs.declared.Slot.{Slot}
-use Rattle.series.specs.Below.{countBelow}
-use Rattle.series.specs.BelowLaws.{all-fails, count-one, count-less, count-below}
-use Rattle.series.specs.Slots.{opened, heldAt, withPart}
-use Rattle.series.specs.Formed.{markAt, sizeAt, partFormed, heldCount}
-use Rattle.series.specs.FormedLaws.{UsedSlot}
+use Rattle.slots.specs.declared.Slot.{Slot}
+use Rattle.slots.specs.Below.{countBelow}
+use Rattle.slots.specs.BelowLaws.{all-fails, count-one, count-less, count-below}
+use Rattle.slots.specs.Slots.{opened, heldAt, withPart}
+use Rattle.slots.specs.Formed.{markAt, sizeAt, partFormed, heldCount}
+use Rattle.slots.specs.FormedLaws.{UsedSlot}
 use Rattle.series.specs.Taking.{completes}
 
 pub total-bounds : (key : Key) (t : ℕ) → totalFits key t ≡ true → (2 ≤ t) × (t ≤ mostParts)

@@ -13,12 +13,12 @@ use Rattle.arrival.specs.Arrivals.{Brought, single, part}
 use Rattle.arrival.specs.Message.{readMessage}
 use Rattle.arrival.specs.Page.{readPage}
 use Rattle.arrival.specs.Keys.{ofPages}
-use Rattle.series.specs.declared.Slot.{Slot}
-use Rattle.series.specs.declared.Record.{Record}
+use Rattle.slots.specs.declared.Slot.{Slot}
+use Rattle.slots.specs.declared.Record.{Record}
 use Rattle.series.specs.declared.Answer as declared
-use Rattle.series.specs.Below.{allBelow}
-use Rattle.series.specs.Slots.{slotAt, used, bears, isFree, find, slotOr, leastRecent, opened, heldAt, withPart, toFront, freed, withSlots}
-use Rattle.series.specs.Formed.{recordFormed, markAt}
+use Rattle.slots.specs.Below.{allBelow}
+use Rattle.slots.specs.Slots.{slotAt, used, bears, isFree, find, slotOr, leastRecent, opened, heldAt, withPart, toFront, freed, withSlots}
+use Rattle.slots.specs.Formed.{recordFormed, markAt}
 use Rattle.series.specs.Cells.{cellsSize, cellAt, cellPart, joinedOctets, packetIn}
 
 -- ---- what a call works on, and what it comes to

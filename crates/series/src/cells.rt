@@ -1,11 +1,11 @@
 // The cells, where the parts of unfinished series lie in the buffer that the caller lends: a part is stored, compared and read again.
-use crate::slots::PARTS;
-use crate::slots::SLOTS;
+use slots::PARTS;
+use slots::SLOTS;
 ghost use mathlib.Core.Path.{_≡_};
 ghost use Prim.Native.Nat.{_≤_};
 ghost use lib.ListN.{length};
 ghost use Rattle.octets.specs.Octets.{placed, sameOctets};
-ghost use Rattle.series.specs.Slots.{slotCount};
+ghost use Rattle.slots.specs.Slots.{slotCount};
 ghost use Rattle.series.specs.Cells.{cellOctets, cellsSize, cellAt};
 ghost use Rattle.series.specs.Handing.{Place, cellStart, Short, pieceOf};
 

@@ -8,7 +8,7 @@ ghost use Prim.Native.Nat.{_+_, _-_, _*_, _≤_, _<_};
 ghost use lib.ListN.{length, take, drop};
 ghost use Rattle.octets.specs.Octets.{placed};
 ghost use Rattle.arrival.specs.Message.{mostParts};
-ghost use Rattle.series.specs.Slots.{slotCount};
+ghost use Rattle.slots.specs.Slots.{slotCount};
 ghost use Rattle.series.specs.Cells.{cellOctets, cellsSize, pagesAllow, packetIn};
 ghost use Rattle.series.specs.Handing.{Short, seriesOctets, frontOf, octetAfter, frontAfter, sizeIn, sizeBy, toldSize, lengthIn, outputWith};
 

@@ -1,19 +1,20 @@
 // Taking a message or a page (01, "Series" and "Numbers of refusal"): 1, then what reading refuses, then 7, 8, 9. What is due is decided
 // before anything is written.
 use crate::Answer;
-use crate::Record;
-use crate::Slot;
 use crate::Taken;
 use crate::cells;
 use crate::cells::CELLS;
-use crate::formed::record_formed;
+use crate::order;
 use crate::packets;
 use crate::packets::Size;
-use crate::slots;
-use crate::slots::Found;
 use arrival::Arrival;
 use arrival::Key;
 use packet::Refusal;
+use slots::Record;
+use slots::Slot;
+use slots::find;
+use slots::find::Found;
+use slots::formed::record_formed;
 ghost use mathlib.Core.Path.{_≡_};
 ghost use mathlib.Core.Bool.{not, _||_};
 ghost use Prim.Native.Nat.{ℕ, _≤_, _<_};
@@ -25,8 +26,8 @@ ghost use Rattle.packet.specs.Packets.{mostOctets};
 ghost use Rattle.arrival.specs.Arrivals.{toldArrival};
 ghost use Rattle.arrival.specs.Message.{mostParts};
 ghost use Rattle.arrival.specs.Laws.{Admitted};
-ghost use Rattle.series.specs.Slots.{slotCount, slotAt, withPart, toFront, freed, withSlots};
-ghost use Rattle.series.specs.Formed.{recordFormed};
+ghost use Rattle.slots.specs.Slots.{slotCount, slotAt, withPart, toFront, freed, withSlots};
+ghost use Rattle.slots.specs.Formed.{recordFormed};
 ghost use Rattle.series.specs.Cells.{cellsSize, cellAt, joinedOctets, packetIn};
 ghost use Rattle.series.specs.Handing.{Place, Short, toldSize, lengthIn, outputWith};
 ghost use Rattle.series.specs.Taking as rule;
@@ -97,13 +98,13 @@ fn decide(x: Slot, i: usize, total: u8, number: usize, cells: &[u8], part: &[u8]
 fn new_place(state: Record) -> Opening
     ensures { λ r. ⌜ (r ≡ newPlace slotCount (state .slots)) × (r .slot < slotCount) ⌝ }
 {
-    match slots::find_free(state) {
+    match find::find_free(state) {
         Found::At(i) => Opening {
             slot: i,
             displaced: false,
         },
         Found::Nothing => Opening {
-            slot: slots::least_recent(state),
+            slot: find::least_recent(state),
             displaced: true,
         },
     }
@@ -127,7 +128,7 @@ fn repeated(state: Record, i: usize, x: Slot) -> Taken
 {
     Taken {
         answer: Answer::HeldAlready { slot: i },
-        record: slots::to_front(state, i, x),
+        record: order::to_front(state, i, x),
     }
 }
 
@@ -147,13 +148,13 @@ fn keep(
 {
     cells::store(cells, i, number, part);
     let n = part.len() as u8;
-    let y = slots::with_part(x, number, n);
+    let y = order::with_part(x, number, n);
     Taken {
         answer: Answer::Kept {
             slot: i,
             displaced: displaced,
         },
-        record: slots::to_front(state, i, y),
+        record: order::to_front(state, i, y),
     }
 }
 
@@ -182,13 +183,13 @@ fn finish<'a>(
     ensures { λ r. ⌜ (toldAnswer (r .answer) ≡ answerOf (lengthIn (packetIn (state .kind) paged (slotAt (state .slots) i .total) (joinedOctets (now (cells .entry)) (slotAt (state .slots) i) i number (now (part .entry)))))) × (r .record ≡ withSlots state (freed (state .slots) i)) ⌝ }
     ensures { λ _. ⌜ now (out .exit) ≡ outputWith (packetIn (state .kind) paged (slotAt (state .slots) i .total) (joinedOctets (now (cells .entry)) (slotAt (state .slots) i) i number (now (part .entry)))) (now (out .entry)) ⌝ }
 {
-    let x = slots::slot_at(state, i);
+    let x = order::slot_at(state, i);
     let total = cells::wide(x.total);
     let kind = state.kind;
     let size = packets::hand_out(kind, paged, cells, &x.lengths, total, i, number, part, out);
     Taken {
         answer: handed(size),
-        record: slots::freed(state, i),
+        record: order::freed(state, i),
     }
 }
 
@@ -207,7 +208,7 @@ fn take_more(
     requires { ⌜ Whole (slotAt (state .slots) i) i number (now part) (now cells) (now out) ⌝ }
     ensures { λ r. ⌜ after (toldAnswer (r .answer)) (r .record) (now (cells .exit)) (now (out .exit)) ≡ rule.acted slotCount (rule.state state (now (cells .entry)) (now (out .entry))) key total number (now (part .entry)) (stepAt (now (cells .entry)) total number (now (part .entry)) i (slotAt (state .slots) i)) ⌝ }
 {
-    let x = slots::slot_at(state, i);
+    let x = order::slot_at(state, i);
     let step = decide(x, i, total, number, cells, part);
     match step {
         Step::Refuses(why) => return refused(state, why),
@@ -233,11 +234,11 @@ fn take_part(
     ensures { λ r. ⌜ after (toldAnswer (r .answer)) (r .record) (now (cells .exit)) (now (out .exit)) ≡ rule.takePart slotCount (rule.state state (now (cells .entry)) (now (out .entry))) key total number (now (part .entry)) ⌝ }
 {
     let k = number as usize;
-    match slots::find_key(state, key) {
+    match find::find_key(state, key) {
         Found::At(i) => return take_more(state, i, key, total, k, part, cells, out),
         Found::Nothing => {
             let o = new_place(state);
-            let x = slots::opened(key, total);
+            let x = find::opened(key, total);
             return keep(state, o.slot, o.displaced, x, k, part, cells);
         }
     }

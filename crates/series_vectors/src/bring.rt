@@ -1,6 +1,6 @@
 // What a line brings: a message, a page, all parts of a packet, or a question.
 use records::show;
-use series::Record;
+use slots::Record;
 
 // User data from a sender.
 fn message(state: Record, args: &[u8], cells: &mut [u8], out: &mut [u8]) -> Record {
@@ -143,7 +143,7 @@ fn judge(state: Record, args: &[u8], cells: &mut [u8], out: &mut [u8]) {
     let mut page = [0; 88];
     octets::put(b"\x00\x00\x10\x80\x96\x11\x00\x0E\x0D", &mut page, 0);
     show::text(args);
-    report::truth(b", well formed", series::formed::record_formed(state));
+    report::truth(b", well formed", slots::formed::record_formed(state));
     show::text(b" message");
     show::take_message(state, 1, ud, cells, out);
     show::text(b" page");

@@ -5,8 +5,8 @@ use libc::STDIN_FILENO;
 use lines::pieces;
 use packet::Kind;
 use records::change;
-use series::Record;
-use series::slots::fresh;
+use slots::Record;
+use slots::find::fresh;
 
 // Where a run stands: the record, and how many octets of the buffers are lent.
 struct State {

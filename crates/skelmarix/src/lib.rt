@@ -58,13 +58,13 @@ pub use arrival::page::read_page;
 
 // Series: the record, and taking what arrives.
 pub use series::Answer;
-pub use series::Record;
-pub use series::Slot;
 pub use series::Taken;
-pub use series::formed::record_formed;
-pub use series::slots::fresh;
 pub use series::take::take_message;
 pub use series::take::take_page;
+pub use slots::Record;
+pub use slots::Slot;
+pub use slots::find::fresh;
+pub use slots::formed::record_formed;
 
 // Splitting: one part a call.
 pub use split::WrittenPart;

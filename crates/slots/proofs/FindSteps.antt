@@ -1,0 +1,64 @@
+-- What the proofs over the slots cite: one law for each return, call and turn of a loop, over plain variables.
+use Prim.Native.Nat.{ℕ, _+_, _≤_, _<_}
+use mathlib.Core.Path.{_≡_, sym, _∙_}
+use mathlib.Core.Bool.{Bool, true, false, not, _&&_}
+use mathlib.Core.List.{List}
+use mathlib.Core.Option.{none, some}
+use native.Mathlib.Omega.{arith}
+use lib.ListN.{length, replicate}
+use lib.Dec.{eqb}
+use borrow.Author.Needs.{needs}
+use borrow.Author.Count.{below-more}
+use Rattle.arrival.specs.declared.Key.{Key}
+use Rattle.packet.specs.declared.Kind.{Kind}
+use Rattle.slots.specs.declared.Slot.{Slot}
+use Rattle.slots.specs.Slots.{slotAt, sameKey, bears, find, isLeastRecent, leastRecent, freeSlot, freshRecord}
+use Rattle.slots.specs.Found.{toldFound, found-inside, length-of-map}
+use Rattle.slots.specs.declared.find.Found.{Found}
+use Rattle.slots.specs.declared.find.Found.the-variants.{At, Nothing}
+use Rattle.slots.proofs.FindLaws.{Passed, find-at, find-none}
+
+-- ---- a search
+module _ (p : Slot → Bool) (n : ℕ) (xs : List Slot) where
+  pub search-starts : length xs ≡ n → Passed p n xs 0
+  search-starts e = record { long = e; within = omega arith; none-yet = λ k l. absurd (omega arith) }
+
+  module _ (i : ℕ) (past : Passed p n xs i) where
+    pub search-goes-on : (b : Bool) → i < n → b ≡ p (slotAt xs i) → b ≡ false → Passed p n xs (i + 1)
+    search-goes-on b l e f =
+        record { long = past .long; within = omega arith; none-yet = below-more _ i (past .none-yet) (sym e ∙ f) }
+
+    pub search-finds : (b : Bool) → i < n → b ≡ p (slotAt xs i) → b ≡ true → some i ≡ find p xs
+    search-finds b l e t = sym (find-at p xs i (omega (arith, past .long)) (past .none-yet) (sym e ∙ t))
+
+    pub search-ends : n ≤ i → none ≡ find p xs
+    search-ends l = sym (find-none p xs (λ k m. past .none-yet k (omega (arith, past .long))))
+
+-- ---- what a search of a rank says of the least recent
+module _ (n : ℕ) (xs : List Slot) (f : Found) (told : toldFound f ≡ find (isLeastRecent n) xs) where
+  pub least-found : (i : ℕ) → f ≡ At i → i ≡ leastRecent n xs
+  least-found i e = rw (← told, e)
+
+  pub least-none : f ≡ Nothing → 0 ≡ leastRecent n xs
+  least-none e = rw (← told, e)
+
+-- ---- flags and literals
+pub bears-told : (key : Key) (x : Slot) (b : Bool) → b ≡ sameKey (x .key) key → not (eqb (x .rank) 0) && b ≡ bears key x
+bears-told key x b e = rw e
+
+pub fresh-told : (n : ℕ) (k : Kind) (x : Slot) → x ≡ freeSlot → record { kind = k; slots = replicate n x } ≡ freshRecord n k
+fresh-told n k x e = rw e
+
+pub ruleset findSteps = (
+  needs,
+  length-of-map,
+  search-starts,
+  search-goes-on,
+  search-finds,
+  search-ends,
+  least-found,
+  least-none,
+  found-inside,
+  bears-told,
+  fresh-told,
+)

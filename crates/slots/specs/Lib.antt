@@ -1,0 +1,9 @@
+pub mod Below
+pub mod BelowLaws
+pub mod Slots
+pub mod RankLaws
+pub mod FrontLaws
+pub mod Found
+pub mod Formed
+pub mod FormedLaws
+pub mod FormedPieces

@@ -1,0 +1,249 @@
+-- Ranks: where each of 1 to m is a rank and m slots are used, no rank is above m and no two used slots have the same; and coming to the front
+-- and freeing keep it so. Said of a rank for each place, whatever the slots hold besides.
+use Prim.Native.Nat.{ℕ, zero, suc, pred, _+_, _-_, _≤_, _<_}
+use mathlib.Core.Path.{_≡_, refl, sym, ap, _∙_, subst}
+use mathlib.Core.Bool.{Bool, true, false, not, cond, _&&_, _||_}
+use native.Mathlib.Omega.{arith}
+use lib.Dec.{eqb, leb, ltb}
+use borrow.Author.Tests.{eq-eqb, ne-eqb, eqb-true, eqb-false, ltb-true, ltb-false, lt-ltb, le-ltb, le-leb, leb-true, leb-false}
+use Rattle.octets.specs.Tests.{clash, both, both-hold, Same, same, other, same?}
+use Rattle.slots.specs.Below.{allBelow, anyBelow, countBelow}
+use Rattle.slots.specs.BelowLaws.{all-at, all-hold, any-hold, any-at, count-same, count-one, count-mono, count-less, count-full}
+use Rattle.slots.specs.Slots.{aged, closed}
+
+-- ---- the ranks of n places
+abbrev pub taken : (ℕ → ℕ) → ℕ → Bool
+taken rank i = not (eqb (rank i) 0)
+
+abbrev pub someRank : ℕ → (ℕ → ℕ) → ℕ → Bool
+someRank n rank r = anyBelow n (λ i. eqb (rank i) r)
+
+abbrev pub Ranked : ℕ → (ℕ → ℕ) → Type 0
+Ranked n rank = allBelow (countBelow n (taken rank)) (λ r. someRank n rank (r + 1)) ≡ true
+
+taken-pos : (q : ℕ) → 0 < q → not (eqb q 0) ≡ true
+taken-pos q l = rw (ne-eqb q 0 (λ e. omega arith))
+
+pub pos-taken : (q : ℕ) → not (eqb q 0) ≡ true → 0 < q
+pos-taken zero e = absurd (clash false e refl)
+pos-taken (suc q) e = omega arith
+
+-- ---- as many different ranks as places that have one, at most
+-- one place more brings at most one rank more
+one-more : (m k : ℕ) (f : ℕ → Bool) → countBelow m (λ r. f r || eqb k (r + 1)) ≤ suc (countBelow m f)
+unfolding countBelow
+one-more zero k f = omega arith
+one-more (suc m) k f = go (one-more m k f) (same? k (m + 1))
+  where
+    here : (b : Bool) (c : ℕ) → cond (b || true) (suc c) c ≤ suc (cond b (suc c) c)
+    here true c = omega arith
+    here false c = omega arith
+
+    there : (b : Bool) (x c : ℕ) → x ≤ suc c → cond (b || false) (suc x) x ≤ suc (cond b (suc c) c)
+    there true x c l = omega arith
+    there false x c l = omega arith
+
+    or-none : (r : ℕ) (b : Bool) → (k ≡ r + 1 → ⊥) → b || eqb k (r + 1) ≡ b
+    or-none r true ne = refl
+    or-none r false ne = ne-eqb k (r + 1) ne
+
+    go : countBelow m (λ r. f r || eqb k (r + 1)) ≤ suc (countBelow m f) → Same k (m + 1)
+        → cond (f m || eqb k (m + 1)) (suc (countBelow m (λ r. f r || eqb k (r + 1)))) (countBelow m (λ r. f r || eqb k (r + 1)))
+        ≤ suc (cond (f m) (suc (countBelow m f)) (countBelow m f))
+    go ih (same e p) = rw (e, count-same m f (λ r. f r || eqb k (r + 1)) (λ r l. or-none r (f r) (λ q. omega arith))) (here (f m) (countBelow m f))
+    go ih (other e p) = rw e (there (f m) (countBelow m (λ r. f r || eqb k (r + 1))) (countBelow m f) ih)
+
+none-counted : (m : ℕ) → countBelow m (λ r. false) ≡ 0
+unfolding countBelow
+none-counted zero = refl
+none-counted (suc m) = none-counted m
+
+or-free : (k : ℕ) (b : Bool) (r : ℕ) → k ≡ 0 → b || eqb k (r + 1) ≡ b
+or-free k true r e = refl
+or-free k false r e = ne-eqb k (r + 1) (λ q. omega arith)
+
+different : (n m : ℕ) (rank : ℕ → ℕ) → countBelow m (λ r. someRank n rank (r + 1)) ≤ countBelow n (taken rank)
+unfolding anyBelow countBelow
+different zero m rank = rw (none-counted m) (omega arith)
+different (suc n) m rank = go (different n m rank) (same? (rank n) 0)
+  where
+    go : countBelow m (λ r. someRank n rank (r + 1)) ≤ countBelow n (taken rank) → Same (rank n) 0
+        → countBelow m (λ r. someRank n rank (r + 1) || eqb (rank n) (r + 1)) ≤ cond (not (eqb (rank n) 0)) (suc (countBelow n (taken rank))) (countBelow n (taken rank))
+    go ih (same e p) = rw (e, count-same m (λ r. someRank n rank (r + 1)) (λ r. someRank n rank (r + 1) || eqb (rank n) (r + 1)) (λ r l. or-free (rank n) (someRank n rank (r + 1)) r p)) ih
+    go ih (other e p) = rw e (omega (arith, one-more m (rank n) (λ r. someRank n rank (r + 1))))
+
+-- ---- no rank is spare
+module _ (n : ℕ) (rank : ℕ → ℕ) (w : Ranked n rank) where
+  m : ℕ
+  m = countBelow n (taken rank)
+
+  -- the ranks without that of place j
+  abbrev without : ℕ → ℕ → ℕ
+  without j i = cond (eqb i j) 0 (rank i)
+
+  -- so j cannot have a rank that nobody needs of it
+  spare : (j : ℕ) → j < n → 0 < rank j → ((r : ℕ) → r < m → (i : ℕ) × (i < n) × (i ≡ j → ⊥) × (rank i ≡ r + 1)) → ⊥
+  unfolding m
+  spare j l u others =
+      let full : countBelow m (λ r. someRank n (without j) (r + 1)) ≡ m = count-full m (λ r. someRank n (without j) (r + 1)) (λ r k. still r (others r k)) in
+      let fewer : countBelow n (taken (without j)) < countBelow n (taken rank) =
+      count-less n (taken (without j)) (taken rank) (λ i k. kept i (same? i j)) j l (rw (eq-eqb j j refl)) (taken-pos (rank j) u) in
+      omega (arith, different n m (without j))
+    where
+      still : (r : ℕ) → (i : ℕ) × (i < n) × (i ≡ j → ⊥) × (rank i ≡ r + 1) → someRank n (without j) (r + 1) ≡ true
+      still r (i, k, ne, e) = any-hold n (λ i. eqb (without j i) (r + 1)) i k (rw (ne-eqb i j ne) (eq-eqb (rank i) (r + 1) e))
+
+      kept : (i : ℕ) → Same i j → taken (without j) i ≡ true → taken rank i ≡ true
+      kept i (same e p) t = absurd (clash false (simp e at t) refl)
+      kept i (other e p) t = simp e at t
+
+  some-place : (r : ℕ) → r < m → (i : ℕ) × (i < n) × (rank i ≡ r + 1)
+  unfolding m
+  some-place r l =
+      let a = any-at n (λ i. eqb (rank i) (r + 1)) (all-at m (λ r. someRank n rank (r + 1)) w r l) in
+      (a .0, a .1, eqb-true (rank (a .0)) (r + 1) (a .2))
+
+  -- no rank is above the number of used places
+  pub rank-bound : (j : ℕ) → j < n → rank j ≤ countBelow n (taken rank)
+  unfolding m
+  rank-bound j l = go (leb (rank j) m) refl
+    where
+      go : (b : Bool) → leb (rank j) m ≡ b → rank j ≤ m
+      go true e = leb-true (rank j) m e
+      go false e =
+          let high : m < rank j = leb-false (rank j) m e in
+          absurd (spare j l (omega arith) (λ r k. let p = some-place r k in (p .0, p .1, (λ q. omega (arith, p .2, ap rank q)), p .2)))
+
+  -- no two used places have the same rank
+  pub ranks-differ : (i j : ℕ) → i < n → j < n → 0 < rank j → rank i ≡ rank j → i ≡ j
+  ranks-differ i j k l u e = go (same? i j)
+    where
+      go : Same i j → i ≡ j
+      go (same p q) = q
+      go (other p q) = absurd (spare j l u (λ r h. pick r (some-place r h) (same? (some-place r h .0) j)))
+        where
+          pick : (r : ℕ) (a : (i : ℕ) × (i < n) × (rank i ≡ r + 1)) → Same (a .0) j → (i : ℕ) × (i < n) × (i ≡ j → ⊥) × (rank i ≡ r + 1)
+          pick r a (same f g) = (i, k, q, e ∙ ap rank (sym g) ∙ a .2)
+          pick r a (other f g) = (a .0, a .1, g, a .2)
+
+  -- where all n are used, one has rank n
+  pub last-rank : 0 < n → ((j : ℕ) → j < n → 0 < rank j) → (i : ℕ) × (i < n) × (rank i ≡ n)
+  unfolding m
+  last-rank pos all =
+      let full : m ≡ n = count-full n (taken rank) (λ i l. taken-pos (rank i) (all i l)) in
+      let p = some-place (n - 1) (omega arith) in (p .0, p .1, omega (arith, p .2))
+
+-- ---- what `aged` and `closed` do to a rank
+pub data Aged (r q : ℕ) : Type 0 where
+  free : q ≡ 0 → aged r q ≡ 0 → Aged r q
+  moves : 0 < q → (r ≡ 0 → ⊥) → q < r → aged r q ≡ suc q → Aged r q
+  yields : 0 < q → r ≡ 0 → aged r q ≡ suc q → Aged r q
+  stays : 0 < q → 0 < r → r ≤ q → aged r q ≡ q → Aged r q
+
+pub aged? : (r q : ℕ) → Aged r q
+unfolding aged
+aged? r q = go (same? q 0) (same? r 0) (ltb q r) refl
+  where
+    go : Same q 0 → Same r 0 → (b : Bool) → ltb q r ≡ b → Aged r q
+    go (same e p) s b l = free p (rw e p)
+    go (other e p) (same f z) b l = yields (omega arith) z (rw (e, f))
+    go (other e p) (other f z) true l = moves (omega arith) z (ltb-true q r l) (rw (e, f, l))
+    go (other e p) (other f z) false l = stays (omega arith) (omega arith) (ltb-false q r l) (rw (e, f, l))
+
+pub aged-taken : (r q : ℕ) → not (eqb (aged r q) 0) ≡ not (eqb q 0)
+aged-taken r q = go (aged? r q)
+  where
+    go : Aged r q → not (eqb (aged r q) 0) ≡ not (eqb q 0)
+    go (free p e) = rw (e, p)
+    go (moves u z l e) = taken-pos (aged r q) (omega arith) ∙ sym (taken-pos q u)
+    go (yields u z e) = taken-pos (aged r q) (omega arith) ∙ sym (taken-pos q u)
+    go (stays u z l e) = rw e
+
+pub closed-near : (r q : ℕ) → q ≤ r → closed r q ≡ q
+unfolding closed
+closed-near r q l = rw (le-ltb r q l)
+
+pub closed-far : (r q : ℕ) → r < q → closed r q ≡ pred q
+unfolding closed
+closed-far r q l = rw (lt-ltb r q l)
+
+pub closed-taken : (r q : ℕ) → 0 < r → not (eqb (closed r q) 0) ≡ not (eqb q 0)
+closed-taken r q h = go (leb q r) refl
+  where
+    go : (b : Bool) → leb q r ≡ b → not (eqb (closed r q) 0) ≡ not (eqb q 0)
+    go true e = rw (closed-near r q (leb-true q r e))
+    go false e =
+        let l : r < q = leb-false q r e in
+        rw (closed-far r q l) (taken-pos (pred q) (omega arith) ∙ sym (taken-pos q (omega arith)))
+
+-- ---- coming to the front, and freeing
+module _ (n : ℕ) (rank : ℕ → ℕ) (w : Ranked n rank) (i : ℕ) (inside : i < n) (rank′ : ℕ → ℕ) where
+  place : (r : ℕ) → r < countBelow n (taken rank) → (j : ℕ) × (j < n) × (rank j ≡ r + 1)
+  place r l =
+      let a = any-at n (λ j. eqb (rank j) (r + 1)) (all-at (countBelow n (taken rank)) (λ r. someRank n rank (r + 1)) w r l) in
+      (a .0, a .1, eqb-true (rank (a .0)) (r + 1) (a .2))
+
+  found : (r j : ℕ) → j < n → rank′ j ≡ r + 1 → someRank n rank′ (r + 1) ≡ true
+  found r j l e = any-hold n (λ j. eqb (rank′ j) (r + 1)) j l (eq-eqb (rank′ j) (r + 1) e)
+
+  pub front-ranked : rank′ i ≡ 1 → ((j : ℕ) → j < n → (j ≡ i → ⊥) → rank′ j ≡ aged (rank i) (rank j)) → Ranked n rank′
+  front-ranked here there = all-hold (countBelow n (taken rank′)) (λ r. someRank n rank′ (r + 1)) each
+    where
+      same-taken : (j : ℕ) → j < n → (j ≡ i → ⊥) → taken rank′ j ≡ taken rank j
+      same-taken j l ne = rw (there j l ne) (aged-taken (rank i) (rank j))
+
+      taken-here : taken rank′ i ≡ true
+      taken-here = rw here
+
+      by-place : (j : ℕ) → j < n → Same j i → 0 < rank i → taken rank′ j ≡ taken rank j
+      by-place j l (same e p) u = ap (taken rank′) p ∙ taken-here ∙ sym (ap (taken rank) p ∙ taken-pos (rank i) u)
+      by-place j l (other e p) u = same-taken j l p
+
+      -- how many are used now
+      old-count : 0 < rank i → countBelow n (taken rank′) ≡ countBelow n (taken rank)
+      old-count u = count-same n (taken rank) (taken rank′) (λ j l. by-place j l (same? j i) u)
+
+      new-count : rank i ≡ 0 → countBelow n (taken rank′) ≡ suc (countBelow n (taken rank))
+      new-count z = count-one n (taken rank) (taken rank′) i inside (rw z) taken-here same-taken
+
+      -- the place of rank q before is that of rank r + 1 now
+      now-at : (r q : ℕ) → (j : ℕ) × (j < n) × (rank j ≡ q) → (rank i ≡ q → ⊥) → aged (rank i) q ≡ r + 1 → someRank n rank′ (r + 1) ≡ true
+      now-at r q (j, l, e) ne g = found r j l (there j l (λ p. ne (ap rank (sym p) ∙ e)) ∙ ap (aged (rank i)) e ∙ g)
+
+      before : (q : ℕ) → q < countBelow n (taken rank) → (j : ℕ) × (j < n) × (rank j ≡ suc q)
+      before q l = let a = place q l in (a .0, a .1, omega (arith, a .2))
+
+      next : (k : ℕ) → suc k < countBelow n (taken rank′) → Aged (rank i) (suc k) → Aged (rank i) (suc (suc k)) → someRank n rank′ (suc k + 1) ≡ true
+      next k l (free p e) b = absurd (omega arith)
+      next k l (moves u z m e) b = now-at (suc k) (suc k) (before k (omega (arith, old-count (omega arith)))) (λ q. omega arith) (omega arith)
+      next k l (yields u z e) b = now-at (suc k) (suc k) (before k (omega (arith, new-count z))) (λ q. omega arith) (omega arith)
+      next k l (stays u z m e) (stays u′ z′ m′ e′) = now-at (suc k) (suc (suc k)) (before (suc k) (omega (arith, old-count z))) (λ q. omega arith) (omega arith)
+      next k l (stays u z m e) (free p e′) = absurd (omega arith)
+      next k l (stays u z m e) (moves u′ z′ m′ e′) = absurd (omega arith)
+      next k l (stays u z m e) (yields u′ z′ e′) = absurd (omega arith)
+
+      each : (r : ℕ) → r < countBelow n (taken rank′) → someRank n rank′ (r + 1) ≡ true
+      each zero l = found 0 i inside here
+      each (suc k) l = next k l (aged? (rank i) (suc k)) (aged? (rank i) (suc (suc k)))
+
+  pub free-ranked : 0 < rank i → rank′ i ≡ 0 → ((j : ℕ) → j < n → (j ≡ i → ⊥) → rank′ j ≡ closed (rank i) (rank j)) → Ranked n rank′
+  free-ranked u here there = all-hold (countBelow n (taken rank′)) (λ r. someRank n rank′ (r + 1)) each
+    where
+      count : countBelow n (taken rank) ≡ suc (countBelow n (taken rank′))
+      count =
+          count-one n (taken rank′) (taken rank) i inside (rw here) (taken-pos (rank i) u)
+          (λ j l ne. rw (there j l ne) (sym (closed-taken (rank i) (rank j) u)))
+
+      now-at : (r q : ℕ) → (j : ℕ) × (j < n) × (rank j ≡ q + 1) → (rank i ≡ q + 1 → ⊥) → closed (rank i) (q + 1) ≡ r + 1 → someRank n rank′ (r + 1) ≡ true
+      now-at r q (j, l, e) ne g = found r j l (there j l (λ p. ne (ap rank (sym p) ∙ e)) ∙ ap (closed (rank i)) e ∙ g)
+
+      go : (r : ℕ) → r < countBelow n (taken rank′) → (b : Bool) → leb (rank i) (r + 1) ≡ b → someRank n rank′ (r + 1) ≡ true
+      go r l true e =
+          let m : rank i ≤ r + 1 = leb-true (rank i) (r + 1) e in
+          now-at r (r + 1) (place (r + 1) (omega (arith, count))) (λ q. omega arith) (closed-far (rank i) (r + 1 + 1) (omega arith) ∙ omega arith)
+      go r l false e =
+          let m : r + 1 < rank i = leb-false (rank i) (r + 1) e in
+          now-at r r (place r (omega (arith, count))) (λ q. omega arith) (closed-near (rank i) (r + 1) (omega arith))
+
+      each : (r : ℕ) → r < countBelow n (taken rank′) → someRank n rank′ (r + 1) ≡ true
+      each r l = go r l (leb (rank i) (r + 1)) refl

@@ -1,0 +1,129 @@
+// The slots of a record: a fresh one, which is free, and which bears a key (01, "Series"). Each search goes over the slots by index, so another
+// number of slots is another `SLOTS`.
+use crate::PARTS;
+use crate::Record;
+use crate::SLOTS;
+use crate::Slot;
+use arrival::Key;
+use arrival::MessageIdentifier;
+use arrival::SerialNumber;
+use packet::Kind;
+ghost use mathlib.Core.Path.{_≡_};
+ghost use Prim.Native.Nat.{_<_};
+ghost use Rattle.slots.specs.Slots.{slotCount, opened, freeSlot, sameKey, bears, isFree, find, isLeastRecent, leastRecent, freshRecord};
+ghost use Rattle.slots.specs.Found.{toldFound, Inside};
+
+// Which slot a search found.
+pub enum Found {
+    At(usize),
+    Nothing,
+}
+
+// A slot for a series of which no part has come yet.
+pub fn opened(key: Key, total: u8) -> Slot
+    ensures { λ r. ⌜ r ≡ opened key total ⌝ }
+{
+    Slot {
+        rank: 0,
+        key: key,
+        total: total,
+        lengths: [0; PARTS],
+        held: [false; PARTS],
+    }
+}
+
+// A free slot, which is all zero.
+pub fn free_slot() -> Slot
+    ensures { λ r. ⌜ r ≡ freeSlot ⌝ }
+{
+    let key = Key {
+        sender: 0,
+        width: 0,
+        reference: 0,
+        serial: SerialNumber(0),
+        identifier: MessageIdentifier(0),
+    };
+    opened(key, 0)
+}
+
+// A record with no series, for one kind of packets.
+pub fn fresh(kind: Kind) -> Record
+    ensures { λ r. ⌜ r ≡ freshRecord slotCount kind ⌝ }
+{
+    let x = free_slot();
+    let slots = [x; SLOTS];
+    Record {
+        kind: kind,
+        slots: slots,
+    }
+}
+
+// Whether two keys are one: every field counts, so 8-bit 2A and 16-bit 002A are two series.
+pub fn same_key(a: Key, b: Key) -> bool
+    ensures { λ r. ⌜ r ≡ sameKey a b ⌝ }
+{
+    (a.sender == b.sender)
+        & (a.width == b.width)
+        & (a.reference == b.reference)
+        & (a.serial.0 == b.serial.0)
+        & (a.identifier.0 == b.identifier.0)
+}
+
+// Whether the slot is used, by the series with that key.
+fn bears(key: Key, x: Slot) -> bool
+    ensures { λ r. ⌜ r ≡ bears key x ⌝ }
+{
+    let k = x.key;
+    (x.rank != 0) & same_key(k, key)
+}
+
+// The slot of the series with that key.
+pub fn find_key(state: Record, key: Key) -> Found
+    ensures { λ r. ⌜ toldFound r ≡ find (bears key) (state .slots) ⌝ }
+    ensures { λ r. ⌜ Inside slotCount r ⌝ }
+{
+    let mut i = 0;
+    while i < SLOTS {
+        let x = state.slots[i];
+        if bears(key, x) {
+            return Found::At(i);
+        }
+        i = i + 1;
+    }
+    Found::Nothing
+}
+
+// The first slot of rank r.
+fn find_rank(state: Record, r: u8) -> Found
+    ensures { λ f. ⌜ toldFound f ≡ find (isLeastRecent r) (state .slots) ⌝ }
+    ensures { λ f. ⌜ Inside slotCount f ⌝ }
+{
+    let mut i = 0;
+    while i < SLOTS {
+        let x = state.slots[i];
+        let here = x.rank == r;
+        if here {
+            return Found::At(i);
+        }
+        i = i + 1;
+    }
+    Found::Nothing
+}
+
+// The lowest free slot.
+pub fn find_free(state: Record) -> Found
+    ensures { λ r. ⌜ toldFound r ≡ find isFree (state .slots) ⌝ }
+    ensures { λ r. ⌜ Inside slotCount r ⌝ }
+{
+    find_rank(state, 0)
+}
+
+// The slot of the least recent series, where all are used.
+pub fn least_recent(state: Record) -> usize
+    ensures { λ r. ⌜ (r ≡ leastRecent slotCount (state .slots)) × (r < slotCount) ⌝ }
+{
+    match find_rank(state, SLOTS as u8) {
+        Found::At(i) => i,
+        Found::Nothing => 0,
+    }
+}
