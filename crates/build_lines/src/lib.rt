@@ -8,7 +8,6 @@ use packet::Cntr;
 use packet::Kind;
 use packet::Spi;
 use packet::Tar;
-use packet::build;
 ghost use Prim.Native.Nat.{_≤_, min};
 ghost use mathlib.Core.Path.{_≡_};
 

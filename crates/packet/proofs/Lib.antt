@@ -1,4 +1,2 @@
 pub mod Reading
 pub mod Showing
-pub mod Building
-pub mod Summing

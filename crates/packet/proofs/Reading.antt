@@ -9,7 +9,7 @@ use lib.ListN.{length, getD, take, drop, length-take, length-drop, List·getD-eq
 use lib.Seq.{drop-cons, getD-drop, take-add, drop-drop}
 use lib.Dec.{eqb, ltb, leb}
 use borrow.Author.Needs.{needs}
-use borrow.Author.Tests.{not-true, not-false, lt-ltb, le-ltb, ltb-false}
+use borrow.Author.Tests.{not-true, not-false, lt-ltb, le-ltb}
 use Rattle.octets.specs.Octets.{numberOf}
 use Rattle.packet.specs.declared.Kind.{Kind}
 use Rattle.packet.specs.declared.Kind.the-variants.{Command, Response}
@@ -24,11 +24,11 @@ use Rattle.packet.specs.declared.ResponseBody.the-variants as response
 use Rattle.packet.specs.declared.Refusal.{Refusal}
 use Rattle.packet.specs.declared.read.Judged.{Judged}
 use Rattle.packet.specs.declared.read.Judged.the-variants as judged
-use Rattle.packet.specs.Refusals.{Outcome, refused, gives, numberOf as refusalNumber, refuse_when_otherwise_}
+use Rattle.packet.specs.Refusals.{Outcome, refused, gives, numberOf as refusalNumber}
 use Rattle.packet.specs.Packets.{before, least, chl, formedBy, wellFormed, cipheredCommand, fieldsOf, Parsed, plainParsed, cipheredParsed, measured, readable, parsing}
 use Rattle.packet.specs.Told.{tarOctets, clearOctets, counterOctets, commandFields, responseFields}
 use Rattle.packet.specs.Laws.{Formed, formed-facts, before-least, least-most}
-use Rattle.packet.specs.Within.{toldJudged}
+use Rattle.packet.specs.Judging.{toldJudged, judged-formed, judged-header, judged-size, judged-readable, judged-refused}
 
 -- ---- well formed
 pub formed-told : (k : Kind) (size high low header n w l : ℕ) → n ≡ numberOf high low → w ≡ header → l ≡ least k
@@ -145,56 +145,14 @@ module _ (p : List ℕ) (f : Formed Response p) (x : Tar) (e : tarOctets x ≡ t
       (runs p 3 3 7 (tarOctets x) (counterOctets (b .cntr) (b .pcntr ∷ b .status ∷ [])) e (i .0)) (rw (← g) (i .1 .0)) (rw (← g) (i .1 .1)))
 
 -- ---- parsing
-abbrev pub andThen : {A : Type 0} → Outcome ℕ → Outcome A → Outcome A
-andThen (refused n) o = refused n
-andThen (gives h) o = o
+module _ (k : Kind) (p : List ℕ) (j : Judged) (e : toldJudged j ≡ readable k p (gives (chl p))) (c : Bool) where
+  pub parsed-fields : (h : ℕ) → j ≡ judged.Readable h → (x : Parsed) → x ≡ measured (fieldsOf k c p) → gives x ≡ parsing k c p
+  unfolding parsing
+  parsed-fields h t x g = rw (← g) (judged-readable k p j e h t (gives x))
 
-pub readable-then : {A : Type 0} (k : Kind) (p : List ℕ) (n : ℕ) (o : Outcome A) → readable k p o ≡ andThen (readable k p (gives n)) o
-readable-then k p n o = go (wellFormed k p) (ltb 2142 (length p))
-  where
-    go : (w l : Bool) → (refuse 9 when not w otherwise refuse 12 when l otherwise o) ≡ andThen (refuse 9 when not w otherwise refuse 12 when l otherwise gives n) o
-    go true true = refl
-    go true false = refl
-    go false l = refl
-
--- what a packet that can be read is
-readable-gives : (k : Kind) (p : List ℕ) (n h : ℕ) → gives h ≡ readable k p (gives n) → (wellFormed k p ≡ true) × (length p ≤ 2142) × (h ≡ n)
-readable-gives k p n h e = go (wellFormed k p) (ltb 2142 (length p)) refl refl e
-  where
-    go : (w l : Bool) → wellFormed k p ≡ w → ltb 2142 (length p) ≡ l → gives h ≡ (refuse 9 when not w otherwise refuse 12 when l otherwise gives n)
-        → (wellFormed k p ≡ true) × (length p ≤ 2142) × (h ≡ n)
-    go true true a b e = let z : _≡_ {A = ℕ} 0 1 = cc in absurd (omega arith)
-    go true false a b e = (a, ltb-false 2142 (length p) b, cc)
-    go false l a b e = let z : _≡_ {A = ℕ} 0 1 = cc in absurd (omega arith)
-
-module _ (k : Kind) (p : List ℕ) (j : Judged) (e : toldJudged j ≡ readable k p (gives (chl p))) where
-  module _ (h : ℕ) (t : j ≡ judged.Readable h) where
-    facts : (wellFormed k p ≡ true) × (length p ≤ 2142) × (h ≡ chl p)
-    facts = readable-gives k p (chl p) h (sym (ap toldJudged t) ∙ e)
-
-    pub judged-formed : Formed k p
-    judged-formed = formed-facts k p (facts .0)
-
-    pub judged-header : h ≡ chl p
-    judged-header = facts .2
-
-    pub judged-size : length p ≤ 2142
-    judged-size = facts .1
-
-    pub judged-readable : {A : Type 0} (o : Outcome A) → o ≡ readable k p o
-    judged-readable o = sym (rw (readable-then k p (chl p) o, ← e, t))
-
-    pub parsed-fields : (c : Bool) (x : Parsed) → x ≡ measured (fieldsOf k c p) → gives x ≡ parsing k c p
-    unfolding parsing
-    parsed-fields c x g = rw (← g) (judged-readable (gives x))
-
-  module _ (r : Refusal) (t : j ≡ judged.Refused r) where
-    pub judged-refused : {A : Type 0} (o : Outcome A) → refused (refusalNumber r) ≡ readable k p o
-    judged-refused o = rw (readable-then k p (chl p) o, ← e, t)
-
-    pub parsed-refused : (c : Bool) → refused (refusalNumber r) ≡ parsing k c p
-    unfolding parsing
-    parsed-refused c = judged-refused (gives (measured (fieldsOf k c p)))
+  pub parsed-refused : (r : Refusal) → j ≡ judged.Refused r → refused (refusalNumber r) ≡ parsing k c p
+  unfolding parsing
+  parsed-refused r t = judged-refused k p j e r t (gives (measured (fieldsOf k c p)))
 
 pub ruleset steps = (
   needs,

@@ -16,8 +16,7 @@ use Rattle.packet.specs.declared.read.Judged.the-variants as judged
 use Rattle.packet.specs.Refusals.{gives, refuse_when_otherwise_}
 use Rattle.packet.specs.Packets.{before, least, chl, wellFormed, readable, shown, shownData, shownCheck, shownOpaque}
 use Rattle.packet.specs.Laws.{Formed, before-least}
-use Rattle.packet.specs.Within.{toldJudged}
-use Rattle.packet.proofs.Reading.{judged-formed, judged-header, judged-readable, judged-refused}
+use Rattle.packet.specs.Judging.{toldJudged, judged-formed, judged-header, judged-readable, judged-refused}
 
 -- nothing is shown of nothing, whether the packet can be read or not
 nothing : (k : Kind) (p : List ℕ) → [] ≡ shown (readable k p (gives []))

@@ -2,4 +2,4 @@ pub mod Refusals
 pub mod Packets
 pub mod Told
 pub mod Laws
-pub mod Within
+pub mod Judging

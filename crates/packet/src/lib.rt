@@ -1,7 +1,5 @@
-// Secured packets (TS 31.115, TS 102 225): reading, showing their parts, building, and the octets that a checksum covers.
-pub mod build;
-pub mod checksum;
-mod layout;
+// Secured packets (TS 31.115, TS 102 225): what they are made of, reading, and showing their parts.
+pub mod layout;
 pub mod read;
 pub mod show;
 

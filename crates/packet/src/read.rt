@@ -23,7 +23,7 @@ ghost use Rattle.packet.specs.Refusals.{gives};
 ghost use Rattle.packet.specs.Packets.{before, least, chl, formedBy, wellFormed, cipheredCommand, fieldsOf, measured, readable, parsing};
 ghost use Rattle.packet.specs.Told.{tarOctets, clearOctets, counterOctets, commandFields, responseFields, toldCommand, toldResponse};
 ghost use Rattle.packet.specs.Laws.{Formed};
-ghost use Rattle.packet.specs.Within.{toldJudged};
+ghost use Rattle.packet.specs.Judging.{toldJudged};
 
 // ---- well formed
 // Whether a packet of `size` octets that begins with these three is well formed: nothing else of a packet is looked at, so a caller whose
@@ -48,7 +48,7 @@ pub fn well_formed(kind: Kind, packet: &[u8]) -> bool
 }
 
 // Whether a command says that its body is ciphered; one too short for an SPI does not.
-pub(crate) fn ciphered_command(packet: &[u8]) -> bool
+pub fn ciphered_command(packet: &[u8]) -> bool
     ensures { λ r. ⌜ r ≡ cipheredCommand (now (packet .entry)) ⌝ }
 {
     if packet.len() <= 3 {
@@ -58,7 +58,7 @@ pub(crate) fn ciphered_command(packet: &[u8]) -> bool
 }
 
 // What every reading asks of a packet first: the refusal, or the header length of a packet that can be read.
-pub(crate) enum Judged {
+pub enum Judged {
     Readable(usize),
     Refused(Refusal),
 }
@@ -72,7 +72,7 @@ fn header_of(packet: &[u8]) -> usize
 }
 
 // Whether a packet can be read: 9, then 12.
-pub(crate) fn judge(kind: Kind, packet: &[u8]) -> Judged
+pub fn judge(kind: Kind, packet: &[u8]) -> Judged
     ensures { λ r. ⌜ toldJudged r ≡ readable kind (now (packet .entry)) (gives (chl (now (packet .entry)))) ⌝ }
 {
     if !well_formed(kind, packet) {

@@ -15,7 +15,6 @@ use packet::PlainResponse;
 use packet::Response;
 use packet::ResponseBody;
 use packet::Tar;
-use packet::checksum;
 use packet::read;
 use packet::show;
 

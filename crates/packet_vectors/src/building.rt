@@ -4,7 +4,6 @@ use packet::Cntr;
 use packet::Spi;
 use packet::Tar;
 use packet::Written;
-use packet::build;
 
 // ---- fields, and what comes of a call
 // The fields in the clear of a command.

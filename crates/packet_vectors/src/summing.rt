@@ -2,7 +2,6 @@
 // and what stands behind the header.
 use crate::building;
 use packet::Written;
-use packet::checksum;
 
 // ---- a vector
 // The octets that are expected, in a buffer as it was before the call: of either kind the data stands at 16.

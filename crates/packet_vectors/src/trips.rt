@@ -10,7 +10,6 @@ use packet::PlainResponse;
 use packet::ResponseBody;
 use packet::Tar;
 use packet::Written;
-use packet::build;
 use packet::read;
 use packet::show;
 

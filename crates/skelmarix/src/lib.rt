@@ -9,6 +9,12 @@ pub use octets::put;
 pub use octets::same;
 
 // Packets: reading, showing, building, the octets of a checksum.
+pub use build::build_ciphered_command;
+pub use build::build_ciphered_response;
+pub use build::build_command;
+pub use build::build_response;
+pub use checksum::command_checksum;
+pub use checksum::response_checksum;
 pub use packet::Clear;
 pub use packet::Cntr;
 pub use packet::Command;
@@ -25,12 +31,6 @@ pub use packet::ResponseBody;
 pub use packet::Spi;
 pub use packet::Tar;
 pub use packet::Written;
-pub use packet::build::build_ciphered_command;
-pub use packet::build::build_ciphered_response;
-pub use packet::build::build_command;
-pub use packet::build::build_response;
-pub use packet::checksum::command_checksum;
-pub use packet::checksum::response_checksum;
 pub use packet::read::formed;
 pub use packet::read::parse_command;
 pub use packet::read::parse_response;
