@@ -1,18 +1,10 @@
 // The bench: a line of text is a call of the library, and its answer is a line of text again.
-pub mod takes;
-
 use lines::Name;
 use lines::Said;
 use lines::texts;
 use lines::words;
+use record_lines::Answered;
 use slots::Record;
-
-// What a line that may change the record comes to.
-pub struct Answered {
-    pub record: Record,
-    pub understood: bool,
-    pub end: usize,
-}
 
 // Whether a line asks nothing: it has no word, or its first begins with `#`.
 fn is_silent(line: &[u8]) -> bool {
@@ -25,20 +17,13 @@ fn is_silent(line: &[u8]) -> bool {
 }
 
 // The lines that need no record.
-fn other_line(
-    name: Name,
-    line: &[u8],
-    from: usize,
-    work: &mut [u8],
-    text: &mut [u8],
-    at: usize,
-) -> Said {
+fn other_line(name: Name, line: &[u8], from: usize, text: &mut [u8], at: usize) -> Said {
     match name {
-        Name::Command => packet_lines::command_line(line, from, work, text, at),
-        Name::Response => packet_lines::response_line(line, from, work, text, at),
-        Name::Build => build_lines::build_line(line, from, work, text, at),
-        Name::Checksum => packet_lines::checksum_line(line, from, work, text, at),
-        Name::Write => part_lines::write_line(line, from, work, text, at),
+        Name::Command => packet_lines::command_line(line, from, text, at),
+        Name::Response => packet_lines::response_line(line, from, text, at),
+        Name::Build => build_lines::build_line(line, from, text, at),
+        Name::Checksum => packet_lines::checksum_line(line, from, text, at),
+        Name::Write => part_lines::write_line(line, from, text, at),
         _ => texts::not_understood(at),
     }
 }
@@ -49,8 +34,6 @@ pub fn answer(
     line: &[u8],
     state: Record,
     cells: &mut [u8],
-    out: &mut [u8],
-    work: &mut [u8],
     text: &mut [u8],
     at: usize,
 ) -> Answered {
@@ -65,12 +48,12 @@ pub fn answer(
     let name = first.name;
     let from = first.next;
     match name {
-        Name::Message => takes::message_line(state, line, from, cells, out, work, text, at),
-        Name::Page => takes::page_line(state, line, from, cells, out, work, text, at),
-        Name::Fresh => takes::fresh_line(state, line, from, cells, out, text, at),
-        Name::Record => takes::record_line(state, line, from, text, at),
+        Name::Message => record_lines::message_line(state, line, from, cells, text, at),
+        Name::Page => record_lines::page_line(state, line, from, cells, text, at),
+        Name::Fresh => record_lines::fresh_line(state, line, from, cells, text, at),
+        Name::Record => record_lines::record_line(state, line, from, text, at),
         _ => {
-            let said = other_line(name, line, from, work, text, at);
+            let said = other_line(name, line, from, text, at);
             Answered {
                 record: state,
                 understood: said.understood,

@@ -1,5 +1,6 @@
 // Lines on building: the fields of a packet, and the packet that they make.
 use lines::Name;
+use lines::OCTETS;
 use lines::Said;
 use lines::texts;
 use lines::words;
@@ -123,13 +124,13 @@ fn build_plain(
     lengths: &[u8],
     line: &[u8],
     from: usize,
-    work: &mut [u8],
     text: &mut [u8],
     at: usize,
 ) -> Said {
     let mut head = [0u8; 13];
+    let mut work = [0u8; OCTETS];
     let fields = words::fields_from(line, from, lengths, &mut head);
-    let two = words::two_from(line, fields.next, work);
+    let two = words::two_from(line, fields.next, &mut work);
     if !(fields.understood & two.understood) {
         return texts::not_understood(at);
     }
@@ -137,14 +138,14 @@ fn build_plain(
     match kind {
         Kind::Command => texts::understood(plain_command(
             &head,
-            &work[..end],
+            texts::first_of(&work, end),
             two.middle,
             text,
             at,
         )),
         Kind::Response => texts::understood(plain_response(
             &head,
-            &work[..end],
+            texts::first_of(&work, end),
             two.middle,
             text,
             at,
@@ -158,22 +159,34 @@ fn build_ciphered(
     lengths: &[u8],
     line: &[u8],
     from: usize,
-    work: &mut [u8],
     text: &mut [u8],
     at: usize,
 ) -> Said {
     let mut head = [0u8; 13];
+    let mut work = [0u8; OCTETS];
     let fields = words::fields_from(line, from, lengths, &mut head);
     let header = words::number_from(line, fields.next);
-    let opaque = words::last_octets(line, header.next, work);
+    let opaque = words::last_octets(line, header.next, &mut work);
     if !(fields.understood & header.understood & opaque.understood) {
         return texts::not_understood(at);
     }
     let n = opaque.count;
     let length = narrow(header.value);
     match kind {
-        Kind::Command => texts::understood(ciphered_command(&head, length, &work[..n], text, at)),
-        Kind::Response => texts::understood(ciphered_response(&head, length, &work[..n], text, at)),
+        Kind::Command => texts::understood(ciphered_command(
+            &head,
+            length,
+            texts::first_of(&work, n),
+            text,
+            at,
+        )),
+        Kind::Response => texts::understood(ciphered_response(
+            &head,
+            length,
+            texts::first_of(&work, n),
+            text,
+            at,
+        )),
     }
 }
 
@@ -184,7 +197,6 @@ fn build_kind(
     ciphered: &[u8],
     line: &[u8],
     from: usize,
-    work: &mut [u8],
     text: &mut [u8],
     at: usize,
 ) -> Said {
@@ -193,58 +205,44 @@ fn build_kind(
         return texts::not_understood(at);
     }
     if mode.ciphered {
-        return build_ciphered(kind, ciphered, line, mode.next, work, text, at);
+        return build_ciphered(kind, ciphered, line, mode.next, text, at);
     }
-    build_plain(kind, plain, line, mode.next, work, text, at)
+    build_plain(kind, plain, line, mode.next, text, at)
 }
 
 // `build command plain SPI KIC KID TAR CNTR PCNTR CHECK DATA`, `build command ciphered SPI KIC KID TAR HEADERLENGTH OPAQUE`.
-fn build_command_line(
-    line: &[u8],
-    from: usize,
-    work: &mut [u8],
-    text: &mut [u8],
-    at: usize,
-) -> Said {
+fn build_command_line(line: &[u8], from: usize, text: &mut [u8], at: usize) -> Said {
     build_kind(
         Kind::Command,
         b"\x02\x01\x01\x03\x05\x01",
         b"\x02\x01\x01\x03",
         line,
         from,
-        work,
         text,
         at,
     )
 }
 
 // `build response plain TAR CNTR PCNTR STATUS CHECK DATA`, `build response ciphered TAR HEADERLENGTH OPAQUE`.
-fn build_response_line(
-    line: &[u8],
-    from: usize,
-    work: &mut [u8],
-    text: &mut [u8],
-    at: usize,
-) -> Said {
+fn build_response_line(line: &[u8], from: usize, text: &mut [u8], at: usize) -> Said {
     build_kind(
         Kind::Response,
         b"\x03\x05\x01\x01",
         b"\x03",
         line,
         from,
-        work,
         text,
         at,
     )
 }
 
 // `build ..`: its kind is the next word.
-pub fn build_line(line: &[u8], from: usize, work: &mut [u8], text: &mut [u8], at: usize) -> Said {
+pub fn build_line(line: &[u8], from: usize, text: &mut [u8], at: usize) -> Said {
     let kind = words::name_from(line, from);
     let name = kind.name;
     match name {
-        Name::Command => build_command_line(line, kind.next, work, text, at),
-        Name::Response => build_response_line(line, kind.next, work, text, at),
+        Name::Command => build_command_line(line, kind.next, text, at),
+        Name::Response => build_response_line(line, kind.next, text, at),
         _ => texts::not_understood(at),
     }
 }

@@ -4,6 +4,9 @@ pub mod pieces;
 pub mod texts;
 pub mod words;
 
+// The most octets that a line of 9,000 characters can have.
+pub const OCTETS: usize = 4500;
+
 // What a word of octets comes to: how many octets it has.
 pub struct Octets {
     pub understood: bool,

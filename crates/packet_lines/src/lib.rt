@@ -1,5 +1,6 @@
 // Lines on packets: parsing, and the octets that a checksum covers.
 use lines::Name;
+use lines::OCTETS;
 use lines::Said;
 use lines::texts;
 use lines::words;
@@ -156,83 +157,63 @@ fn parse_response(packet: &[u8], ciphered: bool, text: &mut [u8], at: usize) -> 
 }
 
 // `command PACKET`.
-pub fn command_line(line: &[u8], from: usize, work: &mut [u8], text: &mut [u8], at: usize) -> Said {
-    let packet = words::last_octets(line, from, work);
+pub fn command_line(line: &[u8], from: usize, text: &mut [u8], at: usize) -> Said {
+    let mut work = [0u8; OCTETS];
+    let packet = words::last_octets(line, from, &mut work);
     if !packet.understood {
         return texts::not_understood(at);
     }
     let n = packet.count;
-    texts::understood(parse_command(&work[..n], text, at))
+    texts::understood(parse_command(texts::first_of(&work, n), text, at))
 }
 
 // `response plain PACKET`, `response ciphered PACKET`.
-pub fn response_line(
-    line: &[u8],
-    from: usize,
-    work: &mut [u8],
-    text: &mut [u8],
-    at: usize,
-) -> Said {
+pub fn response_line(line: &[u8], from: usize, text: &mut [u8], at: usize) -> Said {
+    let mut work = [0u8; OCTETS];
     let mode = words::mode_from(line, from);
-    let packet = words::last_octets(line, mode.next, work);
+    let packet = words::last_octets(line, mode.next, &mut work);
     if !(mode.understood & packet.understood) {
         return texts::not_understood(at);
     }
     let n = packet.count;
-    texts::understood(parse_response(&work[..n], mode.ciphered, text, at))
+    texts::understood(parse_response(texts::first_of(&work, n), mode.ciphered, text, at))
 }
 
 // ---- checksum octets
 // `checksum command PACKET`.
-fn command_checksum_line(
-    line: &[u8],
-    from: usize,
-    work: &mut [u8],
-    text: &mut [u8],
-    at: usize,
-) -> Said {
-    let packet = words::last_octets(line, from, work);
+fn command_checksum_line(line: &[u8], from: usize, text: &mut [u8], at: usize) -> Said {
+    let mut work = [0u8; OCTETS];
+    let packet = words::last_octets(line, from, &mut work);
     if !packet.understood {
         return texts::not_understood(at);
     }
     let n = packet.count;
     let mut out = [0u8; 2145];
-    let written = checksum::command_checksum(&work[..n], &mut out);
+    let written = checksum::command_checksum(texts::first_of(&work, n), &mut out);
     texts::understood(texts::say_written(b"octets", written, &out, text, at))
 }
 
 // `checksum response plain PACKET`, `checksum response ciphered PACKET`.
-fn response_checksum_line(
-    line: &[u8],
-    from: usize,
-    work: &mut [u8],
-    text: &mut [u8],
-    at: usize,
-) -> Said {
+fn response_checksum_line(line: &[u8], from: usize, text: &mut [u8], at: usize) -> Said {
+    let mut work = [0u8; OCTETS];
     let mode = words::mode_from(line, from);
-    let packet = words::last_octets(line, mode.next, work);
+    let packet = words::last_octets(line, mode.next, &mut work);
     if !(mode.understood & packet.understood) {
         return texts::not_understood(at);
     }
     let n = packet.count;
     let mut out = [0u8; 2145];
-    let written = checksum::response_checksum(&work[..n], mode.ciphered, &mut out);
+    let written = checksum::response_checksum(texts::first_of(&work, n), mode.ciphered, &mut out);
     texts::understood(texts::say_written(b"octets", written, &out, text, at))
 }
 
 // `checksum ..`: the kind is the next word.
-pub fn checksum_line(
-    line: &[u8],
-    from: usize,
-    work: &mut [u8],
-    text: &mut [u8],
-    at: usize,
-) -> Said {
+pub fn checksum_line(line: &[u8], from: usize, text: &mut [u8], at: usize) -> Said {
     let kind = words::name_from(line, from);
     let name = kind.name;
     match name {
-        Name::Command => command_checksum_line(line, kind.next, work, text, at),
-        Name::Response => response_checksum_line(line, kind.next, work, text, at),
+        Name::Command => command_checksum_line(line, kind.next, text, at),
+        Name::Response => response_checksum_line(line, kind.next, text, at),
         _ => texts::not_understood(at),
     }
 }

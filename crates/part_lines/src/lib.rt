@@ -2,6 +2,7 @@
 use arrival::MessageIdentifier;
 use arrival::SerialNumber;
 use lines::Name;
+use lines::OCTETS;
 use lines::Said;
 use lines::texts;
 use lines::words;
@@ -21,18 +22,12 @@ fn say_part(part: WrittenPart, out: &[u8], text: &mut [u8], at: usize) -> usize 
 }
 
 // `write command WIDTH REF NUMBER PACKET`, and the same for a response.
-fn write_message_line(
-    kind: Kind,
-    line: &[u8],
-    from: usize,
-    work: &mut [u8],
-    text: &mut [u8],
-    at: usize,
-) -> Said {
+fn write_message_line(kind: Kind, line: &[u8], from: usize, text: &mut [u8], at: usize) -> Said {
+    let mut work = [0u8; OCTETS];
     let width = words::number_from(line, from);
     let reference = words::number_from(line, width.next);
     let number = words::number_from(line, reference.next);
-    let packet = words::last_octets(line, number.next, work);
+    let packet = words::last_octets(line, number.next, &mut work);
     if !(width.understood & reference.understood & number.understood & packet.understood) {
         return texts::not_understood(at);
     }
@@ -43,18 +38,19 @@ fn write_message_line(
         width.value,
         reference.value,
         number.value,
-        &work[..n],
+        texts::first_of(&work, n),
         &mut out,
     );
     texts::understood(say_part(part, &out, text, at))
 }
 
 // `write page SERIAL IDENTIFIER DCS NUMBER PACKET`.
-fn write_page_line(line: &[u8], from: usize, work: &mut [u8], text: &mut [u8], at: usize) -> Said {
+fn write_page_line(line: &[u8], from: usize, text: &mut [u8], at: usize) -> Said {
     let mut head = [0u8; 5];
+    let mut work = [0u8; OCTETS];
     let fields = words::fields_from(line, from, b"\x02\x02\x01", &mut head);
     let number = words::number_from(line, fields.next);
-    let packet = words::last_octets(line, number.next, work);
+    let packet = words::last_octets(line, number.next, &mut work);
     if !(fields.understood & number.understood & packet.understood) {
         return texts::not_understood(at);
     }
@@ -67,20 +63,20 @@ fn write_page_line(line: &[u8], from: usize, work: &mut [u8], text: &mut [u8], a
         identifier,
         head[4],
         number.value,
-        &work[..n],
+        texts::first_of(&work, n),
         &mut out,
     );
     texts::understood(say_part(part, &out, text, at))
 }
 
 // `write ..`: what is written is the next word.
-pub fn write_line(line: &[u8], from: usize, work: &mut [u8], text: &mut [u8], at: usize) -> Said {
+pub fn write_line(line: &[u8], from: usize, text: &mut [u8], at: usize) -> Said {
     let what = words::name_from(line, from);
     let name = what.name;
     match name {
-        Name::Command => write_message_line(Kind::Command, line, what.next, work, text, at),
-        Name::Response => write_message_line(Kind::Response, line, what.next, work, text, at),
-        Name::Page => write_page_line(line, what.next, work, text, at),
+        Name::Command => write_message_line(Kind::Command, line, what.next, text, at),
+        Name::Response => write_message_line(Kind::Response, line, what.next, text, at),
+        Name::Page => write_page_line(line, what.next, text, at),
         _ => texts::not_understood(at),
     }
 }

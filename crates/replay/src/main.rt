@@ -62,17 +62,10 @@ fn said(understood: bool, number: u64, text: &mut [u8], end: usize) -> usize {
 }
 
 // Answers a line.
-fn answer(
-    line: &[u8],
-    s: Session,
-    cells: &mut [u8],
-    out: &mut [u8],
-    work: &mut [u8],
-    text: &mut [u8],
-) -> Session {
+fn answer(line: &[u8], s: Session, cells: &mut [u8], text: &mut [u8]) -> Session {
     let number = std::num::wrapping_add_u64(s.lines, 1);
     let record = s.record;
-    let answered = bench::answer(line, record, cells, out, work, text, s.end);
+    let answered = bench::answer(line, record, cells, text, s.end);
     let after = answered.record;
     Session {
         record: after,
@@ -110,41 +103,20 @@ fn with_line(s: Session, line: Gathered) -> Session {
 }
 
 // Takes a line that is whole.
-fn take(
-    line: &[u8],
-    s: Session,
-    cells: &mut [u8],
-    out: &mut [u8],
-    work: &mut [u8],
-    text: &mut [u8],
-) -> Session {
+fn take(line: &[u8], s: Session, cells: &mut [u8], text: &mut [u8]) -> Session {
     let end = with_room(text, s.end);
     let ready = with_end(s, end);
     let gathered = s.line;
     if gathered.long | (MOST < line.len()) {
         return pass(ready, text);
     }
-    answer(line, ready, cells, out, work, text)
+    answer(line, ready, cells, text)
 }
 
 // Takes what is gathered of a line.
-fn take_held(
-    s: Session,
-    held: &[u8],
-    cells: &mut [u8],
-    out: &mut [u8],
-    work: &mut [u8],
-    text: &mut [u8],
-) -> Session {
+fn take_held(s: Session, held: &[u8], cells: &mut [u8], text: &mut [u8]) -> Session {
     let gathered = s.line;
-    take(
-        texts::first_of(held, gathered.count),
-        s,
-        cells,
-        out,
-        work,
-        text,
-    )
+    take(texts::first_of(held, gathered.count), s, cells, text)
 }
 
 // Takes the characters up to a line's end, or up to the end of a piece. A line that lies in one piece is answered where it stands.
@@ -154,45 +126,26 @@ fn part(
     s: Session,
     held: &mut [u8],
     cells: &mut [u8],
-    out: &mut [u8],
-    work: &mut [u8],
     text: &mut [u8],
 ) -> Session {
     let gathered = s.line;
     if ended & (gathered.count == 0) & !gathered.long {
-        return take(chars, s, cells, out, work, text);
+        return take(chars, s, cells, text);
     }
     let more = with_line(s, pieces::gather(chars, gathered, held));
     if ended {
-        return take_held(more, held, cells, out, work, text);
+        return take_held(more, held, cells, text);
     }
     more
 }
 
 // Takes the lines of a piece of input.
-fn feed(
-    piece: &[u8],
-    s: Session,
-    held: &mut [u8],
-    cells: &mut [u8],
-    out: &mut [u8],
-    work: &mut [u8],
-    text: &mut [u8],
-) -> Session {
+fn feed(piece: &[u8], s: Session, held: &mut [u8], cells: &mut [u8], text: &mut [u8]) -> Session {
     let mut s = s;
     let mut from = 0;
     while from < piece.len() {
         let end = bytes::scan::find(piece, from, piece.len(), 10);
-        s = part(
-            &piece[from..end],
-            end < piece.len(),
-            s,
-            held,
-            cells,
-            out,
-            work,
-            text,
-        );
+        s = part(&piece[from..end], end < piece.len(), s, held, cells, text);
         from = end + 1;
     }
     s
@@ -211,11 +164,9 @@ fn take_piece(
     s: Session,
     held: &mut [u8],
     cells: &mut [u8],
-    out: &mut [u8],
-    work: &mut [u8],
     text: &mut [u8],
 ) -> Session {
-    let fed = feed(piece, s, held, cells, out, work, text);
+    let fed = feed(piece, s, held, cells, text);
     write(text, fed.end);
     with_end(fed, 0)
 }
@@ -226,8 +177,6 @@ fn turn(
     piece: &mut [u8],
     held: &mut [u8],
     cells: &mut [u8],
-    out: &mut [u8],
-    work: &mut [u8],
     text: &mut [u8],
 ) -> Session {
     let got = libc::read(STDIN_FILENO, piece);
@@ -239,24 +188,17 @@ fn turn(
         return closed(s);
     }
     let n = io::count(got, piece);
-    take_piece(&piece[..n], s, held, cells, out, work, text)
+    take_piece(&piece[..n], s, held, cells, text)
 }
 
 // Reads to the end of the input. A proved loop has to end, and nothing says that input does: so it counts its turns down, from a number
 // that no run uses up.
-fn read_all(
-    piece: &mut [u8],
-    held: &mut [u8],
-    cells: &mut [u8],
-    out: &mut [u8],
-    work: &mut [u8],
-    text: &mut [u8],
-) -> Session {
+fn read_all(piece: &mut [u8], held: &mut [u8], cells: &mut [u8], text: &mut [u8]) -> Session {
     let mut s = start();
     let mut turns = u64::MAX;
     while turns > 0 {
         if s.open {
-            s = turn(s, piece, held, cells, out, work, text);
+            s = turn(s, piece, held, cells, text);
             turns -= 1;
         } else {
             return s;
@@ -266,19 +208,12 @@ fn read_all(
 }
 
 // A last line may lack its end.
-fn finish(
-    s: Session,
-    held: &[u8],
-    cells: &mut [u8],
-    out: &mut [u8],
-    work: &mut [u8],
-    text: &mut [u8],
-) {
+fn finish(s: Session, held: &[u8], cells: &mut [u8], text: &mut [u8]) {
     let gathered = s.line;
     if (gathered.count == 0) & !gathered.long {
         return;
     }
-    let last = take_held(s, held, cells, out, work, text);
+    let last = take_held(s, held, cells, text);
     write(text, last.end);
 }
 
@@ -286,16 +221,7 @@ fn main() {
     let mut piece = io::large_buffer();
     let mut held = [0u8; 9000];
     let mut cells = [0u8; 6432];
-    let mut out = [0u8; 2142];
-    let mut work = [0u8; 4500];
     let mut text = io::large_buffer();
-    let s = read_all(
-        &mut piece,
-        &mut held,
-        &mut cells,
-        &mut out,
-        &mut work,
-        &mut text,
-    );
-    finish(s, &held, &mut cells, &mut out, &mut work, &mut text);
+    let s = read_all(&mut piece, &mut held, &mut cells, &mut text);
+    finish(s, &held, &mut cells, &mut text);
 }

@@ -170,14 +170,12 @@ fn output(args: &[u8], out: &[u8]) {
 
 // ---- a line
 // What the first letter says.
-pub(crate) fn any(
-    what: u8,
-    state: Record,
-    args: &[u8],
-    cells: &mut [u8],
-    out: &mut [u8],
-) -> Record {
-    match what {
+pub(crate) fn any(state: Record, line: &[u8], cells: &mut [u8], out: &mut [u8]) -> Record {
+    if line.len() == 0 {
+        return state;
+    }
+    let args = vectors::after(line);
+    match line[0] {
         b'm' => return message(state, args, cells, out),
         b'p' => return page(state, args, cells, out),
         b'a' => return whole(state, args, cells, out),

@@ -8,88 +8,65 @@ use records::change;
 use slots::Record;
 use slots::find::fresh;
 
-// Where a run stands: the record, and how many octets of the buffers are lent.
-struct State {
-    record: Record,
-    cells: usize,
-    out: usize,
-}
-
 // A record to begin with, and buffers as they are before anything is written to them.
-fn begin(record: Record, cells: &mut [u8], out: &mut [u8]) -> State {
+fn begin(record: Record, cells: &mut [u8], out: &mut [u8]) -> Record {
     pieces::fill(cells, 0xEE);
     pieces::fill(out, 0xDD);
-    State {
-        record: record,
-        cells: 6432,
-        out: 2142,
-    }
-}
-
-// The same state with another record.
-fn with_record(state: State, record: Record) -> State {
-    State {
-        record: record,
-        cells: state.cells,
-        out: state.out,
-    }
-}
-
-// The same record with buffers of other lengths.
-fn lent(state: State, args: &[u8]) -> State {
-    let record = state.record;
-    State {
-        record: record,
-        cells: vectors::size(vectors::word(args)),
-        out: vectors::size(vectors::word(vectors::after(args))),
-    }
+    record
 }
 
 // What takes something, or shows it, is run with as much of the buffers as is lent.
-fn run(state: State, what: u8, args: &[u8], cells: &mut [u8], out: &mut [u8]) -> State {
-    let n = state.cells;
-    let m = state.out;
-    let r = state.record;
+fn run(
+    record: Record,
+    n: usize,
+    m: usize,
+    line: &[u8],
+    cells: &mut [u8],
+    out: &mut [u8],
+) -> Record {
     if cells.len() < n {
-        return state;
+        return record;
     }
     if out.len() < m {
-        return state;
+        return record;
     }
-    with_record(
-        state,
-        bring::any(what, r, args, &mut cells[0..n], &mut out[0..m]),
-    )
+    bring::any(record, line, &mut cells[0..n], &mut out[0..m])
+}
+
+// A line that says how much of the buffers is lent, and then what is run.
+fn lent(record: Record, args: &[u8], cells: &mut [u8], out: &mut [u8]) -> Record {
+    let more = vectors::after(args);
+    let n = vectors::size(vectors::word(args));
+    let m = vectors::size(vectors::word(more));
+    run(record, n, m, vectors::after(more), cells, out)
 }
 
 // One line: its first letter says what it is.
-fn step(state: State, line: &[u8], cells: &mut [u8], out: &mut [u8]) -> State {
+fn step(record: Record, line: &[u8], cells: &mut [u8], out: &mut [u8]) -> Record {
     if line.len() == 0 {
-        return state;
+        return record;
     }
-    let args = vectors::after(line);
-    let r = state.record;
     match line[0] {
         b'c' => begin(fresh(Kind::Command), cells, out),
         b'r' => begin(fresh(Kind::Response), cells, out),
         b'g' => begin(change::good(), cells, out),
-        b'w' => with_record(state, change::changed(r, args)),
-        b'k' => with_record(state, change::for_responses(r)),
-        b'l' => lent(state, args),
-        what => run(state, what, args, cells, out),
+        b'w' => change::changed(record, vectors::after(line)),
+        b'k' => change::for_responses(record),
+        b'l' => lent(record, vectors::after(line), cells, out),
+        _ => run(record, 6432, 2142, line, cells, out),
     }
 }
 
-// All lines, from a state to begin with.
-fn each(text: &[u8], start: State, cells: &mut [u8], out: &mut [u8]) {
-    let mut state = start;
+// All lines, from a record to begin with.
+fn each(text: &[u8], start: Record, cells: &mut [u8], out: &mut [u8]) {
+    let mut record = start;
     let mut at = 0;
     while at < text.len() {
         let end = vectors::line_end(text, at);
         if text.len() <= end {
             return;
         }
-        state = step(state, vectors::between(text, at, end), cells, out);
+        record = step(record, vectors::between(text, at, end), cells, out);
         at = end + 1;
     }
 }

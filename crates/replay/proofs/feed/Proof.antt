@@ -7,11 +7,11 @@ use Rattle.replay.proofs.feed.Statement.{statement}
 use Rattle.replay.proofs.feed.Tie as tie
 
 abbrev Inv-loop : tie.InvT-loop
-Inv-loop piece held₀ cells₀ out₀ work₀ text₀ s₀ from₀ held cells out work text s from =
-    (length piece < 2 ^ 63) × (length held ≡ length held₀) × (length cells ≡ length cells₀) × (length out ≡ length out₀) × (length work ≡ length work₀) × (length text ≡ length text₀)
+Inv-loop piece held₀ cells₀ text₀ s₀ from₀ held cells text s from =
+    (length piece < 2 ^ 63) × (length held ≡ length held₀) × (length cells ≡ length cells₀) × (length text ≡ length text₀)
 
 abbrev μ-loop : tie.MeasureT-loop
-μ-loop piece held₀ cells₀ out₀ work₀ text₀ s₀ from₀ held cells out work text s from = length piece - from
+μ-loop piece held₀ cells₀ text₀ s₀ from₀ held cells text s from = length piece - from
 
 loop-holds : tie.Need-loop-holds Inv-loop μ-loop
 loop-holds c = search needs
@@ -49,12 +49,6 @@ same-length-2 c = search needs
 same-length-3 : tie.Need-same-length-3 Inv-loop μ-loop
 same-length-3 c = search needs
 
-same-length-4 : tie.Need-same-length-4 Inv-loop μ-loop
-same-length-4 c = search needs
-
-same-length-5 : tie.Need-same-length-5 Inv-loop μ-loop
-same-length-5 c = search needs
-
 returns : tie.Need-returns Inv-loop μ-loop
 returns c = search needs
 
@@ -76,6 +70,4 @@ feed-spec =
     same-length
     same-length-2
     same-length-3
-    same-length-4
-    same-length-5
     returns)

@@ -1,7 +1,7 @@
 // Lines on the record: a fresh one, taking a message or a page, and what the record holds.
-use crate::Answered;
 use arrival::Key;
 use lines::Name;
+use lines::OCTETS;
 use lines::pieces;
 use lines::texts;
 use lines::words;
@@ -9,6 +9,16 @@ use packet::Kind;
 use series::Answer;
 use slots::Record;
 use slots::Slot;
+
+// The length of the output that is lent; it is all 00 before each call.
+const MOST_OCTETS: usize = 2142;
+
+// What a line that may change the record comes to.
+pub struct Answered {
+    pub record: Record,
+    pub understood: bool,
+    pub end: usize,
+}
 
 // ---- answers as text
 // `kept SLOT no` or `kept SLOT displaced`.
@@ -66,25 +76,31 @@ pub fn message_line(
     line: &[u8],
     from: usize,
     cells: &mut [u8],
-    out: &mut [u8],
-    work: &mut [u8],
     text: &mut [u8],
     at: usize,
 ) -> Answered {
     let mut head = [0u8; 4];
+    let mut work = [0u8; OCTETS];
     let sender = words::fields_from(line, from, b"\x04", &mut head);
-    let ud = words::last_octets(line, sender.next, work);
+    let ud = words::last_octets(line, sender.next, &mut work);
     if !(sender.understood & ud.understood) {
         return unanswered(state, at);
     }
     let n = ud.count;
-    let taken = series::take::take_message(state, sender_of(&head), &work[..n], cells, out);
+    let mut out = [0u8; MOST_OCTETS];
+    let taken = series::take::take_message(
+        state,
+        sender_of(&head),
+        texts::first_of(&work, n),
+        cells,
+        &mut out,
+    );
     let answer = taken.answer;
     let record = taken.record;
     Answered {
         record: record,
         understood: true,
-        end: say_answer(answer, out, text, at),
+        end: say_answer(answer, &out, text, at),
     }
 }
 
@@ -94,31 +110,30 @@ pub fn page_line(
     line: &[u8],
     from: usize,
     cells: &mut [u8],
-    out: &mut [u8],
-    work: &mut [u8],
     text: &mut [u8],
     at: usize,
 ) -> Answered {
-    let page = words::last_octets(line, from, work);
+    let mut work = [0u8; OCTETS];
+    let page = words::last_octets(line, from, &mut work);
     if !page.understood {
         return unanswered(state, at);
     }
     let n = page.count;
-    let taken = series::take::take_page(state, &work[..n], cells, out);
+    let mut out = [0u8; MOST_OCTETS];
+    let taken = series::take::take_page(state, texts::first_of(&work, n), cells, &mut out);
     let answer = taken.answer;
     let record = taken.record;
     Answered {
         record: record,
         understood: true,
-        end: say_answer(answer, out, text, at),
+        end: say_answer(answer, &out, text, at),
     }
 }
 
 // ---- a fresh record
-// A fresh record of that kind, and buffers of 00.
-fn fresh_of(kind: Kind, cells: &mut [u8], out: &mut [u8], text: &mut [u8], at: usize) -> Answered {
+// A fresh record of that kind, and cells of 00.
+fn fresh_of(kind: Kind, cells: &mut [u8], text: &mut [u8], at: usize) -> Answered {
     pieces::fill(cells, 0);
-    pieces::fill(out, 0);
     Answered {
         record: slots::find::fresh(kind),
         understood: true,
@@ -132,7 +147,6 @@ pub fn fresh_line(
     line: &[u8],
     from: usize,
     cells: &mut [u8],
-    out: &mut [u8],
     text: &mut [u8],
     at: usize,
 ) -> Answered {
@@ -142,8 +156,8 @@ pub fn fresh_line(
     }
     let name = kind.name;
     match name {
-        Name::Command => fresh_of(Kind::Command, cells, out, text, at),
-        Name::Response => fresh_of(Kind::Response, cells, out, text, at),
+        Name::Command => fresh_of(Kind::Command, cells, text, at),
+        Name::Response => fresh_of(Kind::Response, cells, text, at),
         _ => unanswered(state, at),
     }
 }

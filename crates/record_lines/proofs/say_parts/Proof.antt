@@ -3,8 +3,8 @@ use Prim.Native.Nat.{_-_, _≤_}
 use mathlib.Core.Path.{_≡_}
 use lib.ListN.{length}
 use borrow.Author.Needs.{needs}
-use Rattle.bench.proofs.takes.say_parts.Statement.{statement}
-use Rattle.bench.proofs.takes.say_parts.Tie as tie
+use Rattle.record_lines.proofs.say_parts.Statement.{statement}
+use Rattle.record_lines.proofs.say_parts.Tie as tie
 
 abbrev Inv-loop : tie.InvT-loop
 Inv-loop text₀ at x at₀ i₀ text at' i = (i ≤ 16) × (length text ≡ length text₀)

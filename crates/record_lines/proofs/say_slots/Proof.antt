@@ -3,8 +3,8 @@ use Prim.Native.Nat.{_-_, _≤_}
 use mathlib.Core.Path.{_≡_}
 use lib.ListN.{length}
 use borrow.Author.Needs.{needs}
-use Rattle.bench.proofs.takes.say_slots.Statement.{statement}
-use Rattle.bench.proofs.takes.say_slots.Tie as tie
+use Rattle.record_lines.proofs.say_slots.Statement.{statement}
+use Rattle.record_lines.proofs.say_slots.Tie as tie
 
 abbrev Inv-loop : tie.InvT-loop
 Inv-loop text₀ at state at₀ s₀ text at' s = (s ≤ 3) × (length text ≡ length text₀)
