@@ -140,12 +140,87 @@ pub fn octets(word: &[u8], out: &mut [u8]) -> usize {
     digits::octets_of_word(word, out).count
 }
 
+// A line behind its first `n` words.
+pub fn rest(line: &[u8], n: usize) -> &[u8] {
+    let mut at = 0;
+    let mut i = 0;
+    while i < n {
+        let passed = words::word_from(line, at);
+        at = passed.end;
+        i += 1;
+    }
+    let next = words::word_from(line, at);
+    behind(line, next.start)
+}
+
+// The word of a line that `n` words stand before.
+pub fn word_at(line: &[u8], n: usize) -> &[u8] {
+    word(rest(line, n))
+}
+
+// The first letter of that word; 0 where there is none.
+pub fn letter_at(line: &[u8], n: usize) -> u8 {
+    let word = word_at(line, n);
+    if word.len() == 0 {
+        return 0;
+    }
+    word[0]
+}
+
+// That word as a decimal number.
+pub fn number_at(line: &[u8], n: usize) -> u32 {
+    number(word_at(line, n))
+}
+
+// The same as a length.
+pub fn size_at(line: &[u8], n: usize) -> usize {
+    size(word_at(line, n))
+}
+
+// That word as one hexadecimal octet.
+pub fn octet_at(line: &[u8], n: usize) -> u8 {
+    let mut o = [0; 1];
+    octets(word_at(line, n), &mut o);
+    o[0]
+}
+
+// That word as a number of two hexadecimal octets.
+pub fn pair_at(line: &[u8], n: usize) -> u16 {
+    let mut o = [0; 2];
+    octets(word_at(line, n), &mut o);
+    octets::number_of(o[0], o[1])
+}
+
+// The packet that a line tells, at the start of out; answers how many octets it has. The second word is that number, and they are counted
+// from 10 on. The third has the octets that stand over the first of them: the packet's lengths, which need not be true.
+pub fn packet_at(line: &[u8], out: &mut [u8]) -> usize {
+    let size = size_at(line, 1);
+    let packet = lend(out, size);
+    counted(packet, 0x10);
+    octets(word_at(line, 2), packet);
+    size
+}
+
+// Whether a line holds a vector: an empty line and a remark, which begins with #, do not.
+pub fn is_vector(line: &[u8]) -> bool {
+    if line.len() == 0 {
+        return false;
+    }
+    line[0] != b'#'
+}
+
 // ---- a line of output
 // How a line starts: the call and the vector.
 pub fn start(call: &[u8], label: &[u8]) {
     io::write_all(STDOUT_FILENO, call);
     io::write_all(STDOUT_FILENO, b", ");
     io::write_all(STDOUT_FILENO, label);
+    io::write_all(STDOUT_FILENO, b": ");
+}
+
+// How a line starts whose vector has its label behind its first `n` words.
+pub fn label_at(line: &[u8], n: usize) {
+    io::write_all(STDOUT_FILENO, rest(line, n));
     io::write_all(STDOUT_FILENO, b": ");
 }
 
@@ -157,4 +232,11 @@ pub fn refused(refusal: Refusal) {
 // The number of a refusal, and how many octets of the lent buffer are left as they were: all of them, where it wrote none.
 pub fn refused_leaving(refusal: Refusal, buffer: &[u8]) {
     report::numbers(b"refused and left", wide(refusal.number()), left(buffer));
+}
+
+// What is written of a line that no vector of the program has the form of.
+pub fn unknown(line: &[u8]) {
+    io::write_all(STDOUT_FILENO, b"not understood: ");
+    io::write_all(STDOUT_FILENO, line);
+    io::write_all(STDOUT_FILENO, b"\n");
 }
