@@ -142,11 +142,27 @@ fn taken(before: Record, t: Taken) -> Record {
     r
 }
 
-// Takes user data and says what came of it.
-pub fn take_message(
+// A message from a sender, or a page.
+fn called(
     state: Record,
+    paged: bool,
     sender: u32,
-    ud: &[u8],
+    octets: &[u8],
+    cells: &mut [u8],
+    out: &mut [u8],
+) -> Taken {
+    if paged {
+        return series::take::take_page(state, octets, cells, out);
+    }
+    series::take::take_message(state, sender, octets, cells, out)
+}
+
+// Takes it and says what came of it.
+pub fn take(
+    state: Record,
+    paged: bool,
+    sender: u32,
+    octets: &[u8],
     cells: &mut [u8],
     out: &mut [u8],
 ) -> Record {
@@ -154,23 +170,7 @@ pub fn take_message(
     let mut old_out = [0; 6500];
     octets::put(cells, &mut old_cells, 0);
     octets::put(out, &mut old_out, 0);
-    let r = taken(
-        state,
-        series::take::take_message(state, sender, ud, cells, out),
-    );
-    change(b" | cells ", &old_cells, cells);
-    change(b" | out ", &old_out, out);
-    text(b"\n");
-    r
-}
-
-// The same with a page.
-pub fn take_page(state: Record, page: &[u8], cells: &mut [u8], out: &mut [u8]) -> Record {
-    let mut old_cells = [0; 6500];
-    let mut old_out = [0; 6500];
-    octets::put(cells, &mut old_cells, 0);
-    octets::put(out, &mut old_out, 0);
-    let r = taken(state, series::take::take_page(state, page, cells, out));
+    let r = taken(state, called(state, paged, sender, octets, cells, out));
     change(b" | cells ", &old_cells, cells);
     change(b" | out ", &old_out, out);
     text(b"\n");
