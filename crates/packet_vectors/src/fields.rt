@@ -1,5 +1,4 @@
 // The fields that are read: each from its place.
-use crate::either::What;
 use packet::Clear;
 use packet::Cntr;
 use packet::CommandBody;
@@ -9,6 +8,7 @@ use packet::PlainResponse;
 use packet::ResponseBody;
 use packet::Tar;
 use packet::read;
+use vectors::either::What;
 
 // TAR.
 fn tar(t: Tar) {

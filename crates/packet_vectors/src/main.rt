@@ -1,58 +1,29 @@
-// Vectors of packets: the least and the greatest of each kind and body, and each refusal on both sides of its border. The input has a vector
-// on each line, and says how it is written; a line of output begins with the vector's label. What is left of a buffer is counted from its
-// end, so a refusal that writes nothing leaves all of it.
-mod building;
-mod either;
+// Vectors of packets that are read: the least and the greatest of each kind and body, and each refusal on both sides of its border. The input
+// has a vector on each line, and says how it is written; a line of output begins with the vector's label.
 mod fields;
 mod parsing;
 mod showing;
-mod summing;
-mod trips;
 
 use libc::STDIN_FILENO;
+use vectors::either;
 
 // Runs a vector of the packet that its line tells.
-fn with_packet(letter: u8, line: &[u8], packet: &[u8]) {
+fn with_packet(line: &[u8], packet: &[u8]) {
+    let letter = vectors::letter_at(line, 0);
     let what = either::what_at(line);
     match letter {
         b'p' => parsing::parse(what, line, packet),
         b'f' => fields::fields(what, line, packet),
         b'v' => showing::view(what, line, packet),
-        b's' => summing::sum(what, line, packet),
-        b'a' => trips::again(what, line, packet),
-        b'c' | b'd' | b'o' => report::octets(
-            vectors::rest(line, 4),
-            showing::part(letter, what, packet),
-        ),
-        _ => vectors::unknown(line),
+        _ => showing::part(letter, what, line, packet),
     }
 }
 
 // Makes the packet of a line, and runs its vector.
-fn packet(letter: u8, line: &[u8]) {
+fn vector(line: &[u8]) {
     let mut a = [0; 2200];
     let size = vectors::packet_at(line, &mut a);
-    with_packet(letter, line, vectors::front(&a, size));
-}
-
-// Runs a vector that builds a packet of octets that are counted from 20 on.
-fn counted(letter: u8, line: &[u8]) {
-    let mut a = [0; 2200];
-    vectors::counted(&mut a, 0x20);
-    if letter == b't' {
-        trips::trip(line, &a);
-    } else {
-        building::build(letter, line, &a);
-    }
-}
-
-// Runs the vector of a line, by the first letter of its first word.
-fn vector(line: &[u8]) {
-    let letter = vectors::letter_at(line, 0);
-    match letter {
-        b'b' | b'e' | b't' => counted(letter, line),
-        _ => packet(letter, line),
-    }
+    with_packet(line, vectors::front(&a, size));
 }
 
 // A line that holds a vector runs it.

@@ -1,11 +1,11 @@
 // Parsing: which lengths are taken, what they come to, and which are refused.
-use crate::either::What;
 use packet::CommandBody;
 use packet::Opaque;
 use packet::ParsedCommand;
 use packet::ParsedResponse;
 use packet::ResponseBody;
 use packet::read;
+use vectors::either::What;
 
 // What a ciphered body comes to.
 fn opaque(o: Opaque) {

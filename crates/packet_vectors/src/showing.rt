@@ -1,7 +1,7 @@
 // Showing: each part of a packet that is shown stands where it belongs, and of one refused or of the other body nothing is shown.
-use crate::either;
-use crate::either::What;
 use crate::parsing;
+use vectors::either;
+use vectors::either::What;
 
 // Whether the shown parts are those of the packet: the check field behind the fixed fields, the data and the opaque octets at its end.
 fn in_place(packet: &[u8], fixed: usize, check: &[u8], data: &[u8], opaque: &[u8]) -> bool {
@@ -41,11 +41,13 @@ pub fn view(what: What, line: &[u8], packet: &[u8]) {
     judged(right, check.len(), data.len(), opaque.len());
 }
 
-// The part that a line's first letter names.
-pub fn part(letter: u8, what: What, packet: &[u8]) -> &[u8] {
+// The octets of the part that a line's first letter names.
+pub fn part(letter: u8, what: What, line: &[u8], packet: &[u8]) {
+    let label = vectors::rest(line, 4);
     match letter {
-        b'c' => either::check(what, packet),
-        b'd' => either::data(what, packet),
-        _ => either::opaque(what, packet),
+        b'c' => report::octets(label, either::check(what, packet)),
+        b'd' => report::octets(label, either::data(what, packet)),
+        b'o' => report::octets(label, either::opaque(what, packet)),
+        _ => vectors::unknown(line),
     }
 }

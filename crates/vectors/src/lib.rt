@@ -1,5 +1,7 @@
 // What the programs that run vectors share: packets made of any lengths, lent buffers whose octets tell whether they were written, and the
 // start of a line.
+pub mod either;
+
 use libc::STDOUT_FILENO;
 use lines::digits;
 use lines::words;
@@ -22,22 +24,6 @@ pub fn counted(out: &mut [u8], from: usize) {
         out[i] = ((from % 160 + i % 160) % 160) as u8;
         i += 1;
     }
-}
-
-// Sets one octet, where there is one.
-pub fn set(out: &mut [u8], at: usize, x: u8) {
-    if at < out.len() {
-        out[at] = x;
-    }
-}
-
-// Octets counted from 10 on, with the two lengths of a packet over the first three: they need not be true.
-pub fn packet(out: &mut [u8], cpl: u16, header: u8) {
-    let pair = octets::pair_of(cpl);
-    counted(out, 0x10);
-    set(out, 0, pair.0);
-    set(out, 1, pair.1);
-    set(out, 2, header);
 }
 
 // The first `n` octets, or none where there are fewer.
@@ -210,14 +196,6 @@ pub fn is_vector(line: &[u8]) -> bool {
 }
 
 // ---- a line of output
-// How a line starts: the call and the vector.
-pub fn start(call: &[u8], label: &[u8]) {
-    io::write_all(STDOUT_FILENO, call);
-    io::write_all(STDOUT_FILENO, b", ");
-    io::write_all(STDOUT_FILENO, label);
-    io::write_all(STDOUT_FILENO, b": ");
-}
-
 // How a line starts whose vector has its label behind its first `n` words.
 pub fn label_at(line: &[u8], n: usize) {
     io::write_all(STDOUT_FILENO, rest(line, n));

@@ -2,8 +2,8 @@
 // and what stands behind the header.
 use crate::building;
 use crate::either;
-use crate::either::What;
 use packet::Written;
+use vectors::either::What;
 
 // What stands behind the header of a packet.
 fn data(packet: &[u8]) -> &[u8] {
@@ -21,20 +21,27 @@ fn lead(what: What) -> usize {
     }
 }
 
-// The octets that are expected. Of either kind the data stands at 16; the fixed fields of a command stand where 02 71 00 is put before those of
-// a response.
-fn expected(what: What, packet: &[u8], out: &mut [u8]) {
-    let fixed = vectors::front(packet, either::fixed(what));
-    octets::put(b"\x02\x71\x00", out, 0);
-    octets::put(fixed, out, lead(what));
-    octets::put(data(packet), out, 16);
+// Whether the buffer's first 16 octets are 02 71 00, where the packet is a response, and the fixed fields.
+fn begins_right(what: What, packet: &[u8], buffer: &[u8]) -> bool {
+    let n = lead(what);
+    let fixed = vectors::front(packet, vectors::either::fixed(what));
+    let before = octets::same(
+        vectors::front(b"\x02\x71\x00", n),
+        vectors::front(buffer, n),
+    );
+    before & octets::same(fixed, vectors::between(buffer, n, 16))
 }
 
-// Whether the whole buffer is as expected.
+// Whether the octets behind those are the data, and then as they were before the call.
+fn ends_right(data: &[u8], end: &[u8]) -> bool {
+    let rest = vectors::behind(end, data.len());
+    octets::same(data, vectors::front(end, data.len())) & (vectors::left(rest) == rest.len())
+}
+
+// Whether the whole buffer is as expected. Of either kind the data stands at 16.
 fn is_expected(what: What, packet: &[u8], buffer: &[u8]) -> bool {
-    let mut wanted = [vectors::FILLER; 2200];
-    expected(what, packet, &mut wanted);
-    octets::same(vectors::front(&wanted, buffer.len()), buffer)
+    let begins = begins_right(what, packet, buffer);
+    begins & ends_right(data(packet), vectors::behind(buffer, 16))
 }
 
 // What a call answers, and whether the whole buffer is as expected.

@@ -32,33 +32,21 @@ pub fn data_at<'a>(line: &[u8], counted: &'a [u8]) -> &'a [u8] {
     vectors::front(vectors::behind(counted, 0x40), vectors::size_at(line, 2))
 }
 
-// A plain packet.
-fn plain(line: &[u8], counted: &[u8], out: &mut [u8]) -> Written {
+// A plain packet, into this buffer.
+fn plain(line: &[u8], counted: &[u8], out: &mut [u8]) {
     let check = check_at(line, counted);
     let data = data_at(line, counted);
     let spi = vectors::octet_at(line, 4);
-    either::plain(either::what_at(line), spi, check, data, out)
+    let w = either::plain(vectors::either::what_at(line), spi, check, data, out);
+    written(w, out);
 }
 
-// A ciphered packet; its opaque octets are told as a check field is.
-fn ciphered(line: &[u8], counted: &[u8], out: &mut [u8]) -> Written {
+// A ciphered packet, into this buffer; its opaque octets are told as a check field is.
+fn ciphered(line: &[u8], counted: &[u8], out: &mut [u8]) {
     let opaque = check_at(line, counted);
     let header = vectors::pair_at(line, 2);
     let spi = vectors::octet_at(line, 4);
-    either::ciphered(either::what_at(line), spi, header, opaque, out)
-}
-
-// A packet of either body.
-fn either_body(letter: u8, line: &[u8], counted: &[u8], out: &mut [u8]) -> Written {
-    if letter == b'e' {
-        return ciphered(line, counted, out);
-    }
-    plain(line, counted, out)
-}
-
-// Into this buffer.
-fn build_into(letter: u8, line: &[u8], counted: &[u8], out: &mut [u8]) {
-    let w = either_body(letter, line, counted, out);
+    let w = either::ciphered(vectors::either::what_at(line), spi, header, opaque, out);
     written(w, out);
 }
 
@@ -67,5 +55,8 @@ pub fn build(letter: u8, line: &[u8], counted: &[u8]) {
     let mut out = [vectors::FILLER; 2200];
     vectors::label_at(line, 6);
     let lent = vectors::lend(&mut out, vectors::size_at(line, 5));
-    build_into(letter, line, counted, lent);
+    if letter == b'e' {
+        return ciphered(line, counted, lent);
+    }
+    plain(line, counted, lent);
 }

@@ -1,7 +1,6 @@
 // Round trips: a packet read, shown and built again has the same octets, and what was built shows what was given.
 use crate::building;
 use crate::either;
-use crate::either::What;
 use packet::Clear;
 use packet::CommandBody;
 use packet::Opaque;
@@ -15,6 +14,7 @@ use packet::Tar;
 use packet::Written;
 use packet::read;
 use packet::show;
+use vectors::either::What;
 
 // ---- built again, of what reading and showing tell
 // What comes of building a packet again: it has the same octets or others, or there was a refusal, which is told at once.
@@ -129,8 +129,8 @@ pub fn again(what: What, line: &[u8], packet: &[u8]) {
 
 // Whether a packet that was built shows what was given, and is the same built again.
 fn shows(what: What, packet: &[u8], check: &[u8], data: &[u8]) {
-    let field = octets::same(check, either::check(what, packet));
-    let secured = octets::same(data, either::data(what, packet));
+    let field = octets::same(check, vectors::either::check(what, packet));
+    let secured = octets::same(data, vectors::either::data(what, packet));
     let came = built_again(what, packet);
     report::truth(
         b"parts as given and the same again",
@@ -141,7 +141,7 @@ fn shows(what: What, packet: &[u8], check: &[u8], data: &[u8]) {
 // A plain packet that is built first.
 pub fn trip(line: &[u8], counted: &[u8]) {
     let mut out = [vectors::FILLER; 2142];
-    let what = either::what_at(line);
+    let what = vectors::either::what_at(line);
     let check = building::check_at(line, counted);
     let data = building::data_at(line, counted);
     vectors::label_at(line, 4);
