@@ -20,12 +20,16 @@ fn line(letter: &[u8], number: u8) {
     }
 }
 
-// Examples a to j: one message each.
-fn messages() {
+// Examples a to d: a single message, alike but for the packet's lengths.
+fn lengths() {
     line(b"a", one::m_handed_out(MESSAGE, &make::single(0x0E, 0x0D)));
     line(b"b", one::number(MESSAGE, &make::single(0x0F, 0x0D)));
     line(b"c", one::number(MESSAGE, &make::single(0x0E, 0x0C)));
     line(b"d", one::number(MESSAGE, &make::single(0x0E, 0x0E)));
+}
+
+// Examples e to j: one message each.
+fn messages() {
     line(b"e", one::number(MESSAGE, b""));
     line(b"f", one::number(MESSAGE, &[0x00]));
     line(b"g", one::number(MESSAGE, &[0x05, 0x00, 0x03, 0x2A, 0x02]));
@@ -59,6 +63,7 @@ fn pages() {
 
 // Every line, in the order of 01.
 fn main() {
+    lengths();
     messages();
     splits();
     pages();
