@@ -5,6 +5,8 @@ use lines::texts;
 use lines::words;
 use record_lines::Answered;
 use slots::Record;
+ghost use Rattle.lines.specs.Texts.{Unsaid};
+ghost use Rattle.record_lines.specs.Lines.{Unanswered, Untouched};
 
 // Whether a line asks nothing: it has no word, or its first begins with `#`.
 fn is_silent(line: &[u8]) -> bool {
@@ -17,7 +19,9 @@ fn is_silent(line: &[u8]) -> bool {
 }
 
 // The lines that need no record.
-fn other_line(name: Name, line: &[u8], from: usize, text: &mut [u8], at: usize) -> Said {
+fn other_line(name: Name, line: &[u8], from: usize, text: &mut [u8], at: usize) -> Said
+    ensures { λ r. ⌜ Unsaid at (now (text .entry)) r (now (text .exit)) ⌝ }
+{
     match name {
         Name::Command => packet_lines::command_line(line, from, text, at),
         Name::Response => packet_lines::response_line(line, from, text, at),
@@ -30,13 +34,10 @@ fn other_line(name: Name, line: &[u8], from: usize, text: &mut [u8], at: usize) 
 
 // Makes the call that a line asks for, and puts its answer behind what stands in the text up to `at`. The record comes back as the call
 // leaves it; a line that asks nothing, or is not understood, changes nothing.
-pub fn answer(
-    line: &[u8],
-    state: Record,
-    cells: &mut [u8],
-    text: &mut [u8],
-    at: usize,
-) -> Answered {
+pub fn answer(line: &[u8], state: Record, cells: &mut [u8], text: &mut [u8], at: usize) -> Answered
+    ensures { λ r. ⌜ Unanswered state at (now (text .entry)) r (now (text .exit)) ⌝ }
+    ensures { λ r. ⌜ Untouched (now (cells .entry)) r (now (cells .exit)) ⌝ }
+{
     if is_silent(line) {
         return Answered {
             record: state,

@@ -11,6 +11,7 @@ use packet::Spi;
 use packet::Tar;
 ghost use Prim.Native.Nat.{_≤_, min};
 ghost use mathlib.Core.Path.{_≡_};
+ghost use Rattle.lines.specs.Texts.{Unsaid};
 
 // A header length for the library, which takes 16 bits: a larger one is as wrong as 65,535 is.
 fn narrow(n: u32) -> u16
@@ -126,7 +127,9 @@ fn build_plain(
     from: usize,
     text: &mut [u8],
     at: usize,
-) -> Said {
+) -> Said
+    ensures { λ r. ⌜ Unsaid at (now (text .entry)) r (now (text .exit)) ⌝ }
+{
     let mut head = [0u8; 13];
     let mut work = [0u8; OCTETS];
     let fields = words::fields_from(line, from, lengths, &mut head);
@@ -161,7 +164,9 @@ fn build_ciphered(
     from: usize,
     text: &mut [u8],
     at: usize,
-) -> Said {
+) -> Said
+    ensures { λ r. ⌜ Unsaid at (now (text .entry)) r (now (text .exit)) ⌝ }
+{
     let mut head = [0u8; 13];
     let mut work = [0u8; OCTETS];
     let fields = words::fields_from(line, from, lengths, &mut head);
@@ -199,7 +204,9 @@ fn build_kind(
     from: usize,
     text: &mut [u8],
     at: usize,
-) -> Said {
+) -> Said
+    ensures { λ r. ⌜ Unsaid at (now (text .entry)) r (now (text .exit)) ⌝ }
+{
     let mode = words::mode_from(line, from);
     if !mode.understood {
         return texts::not_understood(at);
@@ -211,7 +218,9 @@ fn build_kind(
 }
 
 // `build command plain SPI KIC KID TAR CNTR PCNTR CHECK DATA`, `build command ciphered SPI KIC KID TAR HEADERLENGTH OPAQUE`.
-fn build_command_line(line: &[u8], from: usize, text: &mut [u8], at: usize) -> Said {
+fn build_command_line(line: &[u8], from: usize, text: &mut [u8], at: usize) -> Said
+    ensures { λ r. ⌜ Unsaid at (now (text .entry)) r (now (text .exit)) ⌝ }
+{
     build_kind(
         Kind::Command,
         b"\x02\x01\x01\x03\x05\x01",
@@ -224,7 +233,9 @@ fn build_command_line(line: &[u8], from: usize, text: &mut [u8], at: usize) -> S
 }
 
 // `build response plain TAR CNTR PCNTR STATUS CHECK DATA`, `build response ciphered TAR HEADERLENGTH OPAQUE`.
-fn build_response_line(line: &[u8], from: usize, text: &mut [u8], at: usize) -> Said {
+fn build_response_line(line: &[u8], from: usize, text: &mut [u8], at: usize) -> Said
+    ensures { λ r. ⌜ Unsaid at (now (text .entry)) r (now (text .exit)) ⌝ }
+{
     build_kind(
         Kind::Response,
         b"\x03\x05\x01\x01",
@@ -237,7 +248,9 @@ fn build_response_line(line: &[u8], from: usize, text: &mut [u8], at: usize) -> 
 }
 
 // `build ..`: its kind is the next word.
-pub fn build_line(line: &[u8], from: usize, text: &mut [u8], at: usize) -> Said {
+pub fn build_line(line: &[u8], from: usize, text: &mut [u8], at: usize) -> Said
+    ensures { λ r. ⌜ Unsaid at (now (text .entry)) r (now (text .exit)) ⌝ }
+{
     let kind = words::name_from(line, from);
     let name = kind.name;
     match name {

@@ -4,6 +4,7 @@ use crate::Said;
 use crate::digits;
 use packet::Refusal;
 use packet::Written;
+ghost use mathlib.Core.Bool.{true, false};
 ghost use mathlib.Core.Path.{_≡_};
 ghost use lib.ListN.{take};
 ghost use Rattle.octets.specs.Octets.{afterPut};
@@ -94,14 +95,18 @@ pub fn say_written(name: &[u8], written: Written, out: &[u8], text: &mut [u8], a
 }
 
 // A line that is understood, with its answer up to a place; and one that is not, with none.
-pub fn understood(at: usize) -> Said {
+pub fn understood(at: usize) -> Said
+    ensures { λ r. ⌜ (r .understood ≡ true) × (r .end ≡ at) ⌝ }
+{
     Said {
         understood: true,
         end: at,
     }
 }
 
-pub fn not_understood(at: usize) -> Said {
+pub fn not_understood(at: usize) -> Said
+    ensures { λ r. ⌜ (r .understood ≡ false) × (r .end ≡ at) ⌝ }
+{
     Said {
         understood: false,
         end: at,

@@ -18,6 +18,7 @@ use packet::ResponseBody;
 use packet::Tar;
 use packet::read;
 use packet::show;
+ghost use Rattle.lines.specs.Texts.{Unsaid};
 
 // ---- fields as text
 fn say_tar(tar: Tar, text: &mut [u8], at: usize) -> usize {
@@ -157,7 +158,9 @@ fn parse_response(packet: &[u8], ciphered: bool, text: &mut [u8], at: usize) -> 
 }
 
 // `command PACKET`.
-pub fn command_line(line: &[u8], from: usize, text: &mut [u8], at: usize) -> Said {
+pub fn command_line(line: &[u8], from: usize, text: &mut [u8], at: usize) -> Said
+    ensures { λ r. ⌜ Unsaid at (now (text .entry)) r (now (text .exit)) ⌝ }
+{
     let mut work = [0u8; OCTETS];
     let packet = words::last_octets(line, from, &mut work);
     if !packet.understood {
@@ -168,7 +171,9 @@ pub fn command_line(line: &[u8], from: usize, text: &mut [u8], at: usize) -> Sai
 }
 
 // `response plain PACKET`, `response ciphered PACKET`.
-pub fn response_line(line: &[u8], from: usize, text: &mut [u8], at: usize) -> Said {
+pub fn response_line(line: &[u8], from: usize, text: &mut [u8], at: usize) -> Said
+    ensures { λ r. ⌜ Unsaid at (now (text .entry)) r (now (text .exit)) ⌝ }
+{
     let mut work = [0u8; OCTETS];
     let mode = words::mode_from(line, from);
     let packet = words::last_octets(line, mode.next, &mut work);
@@ -181,7 +186,9 @@ pub fn response_line(line: &[u8], from: usize, text: &mut [u8], at: usize) -> Sa
 
 // ---- checksum octets
 // `checksum command PACKET`.
-fn command_checksum_line(line: &[u8], from: usize, text: &mut [u8], at: usize) -> Said {
+fn command_checksum_line(line: &[u8], from: usize, text: &mut [u8], at: usize) -> Said
+    ensures { λ r. ⌜ Unsaid at (now (text .entry)) r (now (text .exit)) ⌝ }
+{
     let mut work = [0u8; OCTETS];
     let packet = words::last_octets(line, from, &mut work);
     if !packet.understood {
@@ -194,7 +201,9 @@ fn command_checksum_line(line: &[u8], from: usize, text: &mut [u8], at: usize) -
 }
 
 // `checksum response plain PACKET`, `checksum response ciphered PACKET`.
-fn response_checksum_line(line: &[u8], from: usize, text: &mut [u8], at: usize) -> Said {
+fn response_checksum_line(line: &[u8], from: usize, text: &mut [u8], at: usize) -> Said
+    ensures { λ r. ⌜ Unsaid at (now (text .entry)) r (now (text .exit)) ⌝ }
+{
     let mut work = [0u8; OCTETS];
     let mode = words::mode_from(line, from);
     let packet = words::last_octets(line, mode.next, &mut work);
@@ -208,7 +217,9 @@ fn response_checksum_line(line: &[u8], from: usize, text: &mut [u8], at: usize) 
 }
 
 // `checksum ..`: the kind is the next word.
-pub fn checksum_line(line: &[u8], from: usize, text: &mut [u8], at: usize) -> Said {
+pub fn checksum_line(line: &[u8], from: usize, text: &mut [u8], at: usize) -> Said
+    ensures { λ r. ⌜ Unsaid at (now (text .entry)) r (now (text .exit)) ⌝ }
+{
     let kind = words::name_from(line, from);
     let name = kind.name;
     match name {

@@ -8,6 +8,7 @@ use lines::texts;
 use lines::words;
 use packet::Kind;
 use split::WrittenPart;
+ghost use Rattle.lines.specs.Texts.{Unsaid};
 
 // `part TOTAL LENGTH OCTETS`, or the refusal.
 fn say_part(part: WrittenPart, out: &[u8], text: &mut [u8], at: usize) -> usize {
@@ -22,7 +23,9 @@ fn say_part(part: WrittenPart, out: &[u8], text: &mut [u8], at: usize) -> usize 
 }
 
 // `write command WIDTH REF NUMBER PACKET`, and the same for a response.
-fn write_message_line(kind: Kind, line: &[u8], from: usize, text: &mut [u8], at: usize) -> Said {
+fn write_message_line(kind: Kind, line: &[u8], from: usize, text: &mut [u8], at: usize) -> Said
+    ensures { λ r. ⌜ Unsaid at (now (text .entry)) r (now (text .exit)) ⌝ }
+{
     let mut work = [0u8; OCTETS];
     let width = words::number_from(line, from);
     let reference = words::number_from(line, width.next);
@@ -45,7 +48,9 @@ fn write_message_line(kind: Kind, line: &[u8], from: usize, text: &mut [u8], at:
 }
 
 // `write page SERIAL IDENTIFIER DCS NUMBER PACKET`.
-fn write_page_line(line: &[u8], from: usize, text: &mut [u8], at: usize) -> Said {
+fn write_page_line(line: &[u8], from: usize, text: &mut [u8], at: usize) -> Said
+    ensures { λ r. ⌜ Unsaid at (now (text .entry)) r (now (text .exit)) ⌝ }
+{
     let mut head = [0u8; 5];
     let mut work = [0u8; OCTETS];
     let fields = words::fields_from(line, from, b"\x02\x02\x01", &mut head);
@@ -70,7 +75,9 @@ fn write_page_line(line: &[u8], from: usize, text: &mut [u8], at: usize) -> Said
 }
 
 // `write ..`: what is written is the next word.
-pub fn write_line(line: &[u8], from: usize, text: &mut [u8], at: usize) -> Said {
+pub fn write_line(line: &[u8], from: usize, text: &mut [u8], at: usize) -> Said
+    ensures { λ r. ⌜ Unsaid at (now (text .entry)) r (now (text .exit)) ⌝ }
+{
     let what = words::name_from(line, from);
     let name = what.name;
     match name {

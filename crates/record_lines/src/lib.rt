@@ -9,6 +9,9 @@ use packet::Kind;
 use series::Answer;
 use slots::Record;
 use slots::Slot;
+ghost use mathlib.Core.Bool.{true, false};
+ghost use mathlib.Core.Path.{_≡_};
+ghost use Rattle.record_lines.specs.Lines.{Unanswered, Untouched};
 
 // The length of the output that is lent; it is all 00 before each call.
 const MOST_OCTETS: usize = 2142;
@@ -54,7 +57,9 @@ fn say_answer(answer: Answer, out: &[u8], text: &mut [u8], at: usize) -> usize {
 }
 
 // A line that is not understood leaves the record and the text as they are.
-fn unanswered(state: Record, at: usize) -> Answered {
+fn unanswered(state: Record, at: usize) -> Answered
+    ensures { λ r. ⌜ (r .«record» ≡ state) × (r .understood ≡ false) × (r .end ≡ at) ⌝ }
+{
     Answered {
         record: state,
         understood: false,
@@ -78,7 +83,10 @@ pub fn message_line(
     cells: &mut [u8],
     text: &mut [u8],
     at: usize,
-) -> Answered {
+) -> Answered
+    ensures { λ r. ⌜ Unanswered state at (now (text .entry)) r (now (text .exit)) ⌝ }
+    ensures { λ r. ⌜ Untouched (now (cells .entry)) r (now (cells .exit)) ⌝ }
+{
     let mut head = [0u8; 4];
     let mut work = [0u8; OCTETS];
     let sender = words::fields_from(line, from, b"\x04", &mut head);
@@ -112,7 +120,10 @@ pub fn page_line(
     cells: &mut [u8],
     text: &mut [u8],
     at: usize,
-) -> Answered {
+) -> Answered
+    ensures { λ r. ⌜ Unanswered state at (now (text .entry)) r (now (text .exit)) ⌝ }
+    ensures { λ r. ⌜ Untouched (now (cells .entry)) r (now (cells .exit)) ⌝ }
+{
     let mut work = [0u8; OCTETS];
     let page = words::last_octets(line, from, &mut work);
     if !page.understood {
@@ -132,7 +143,9 @@ pub fn page_line(
 
 // ---- a fresh record
 // A fresh record of that kind, and cells of 00.
-fn fresh_of(kind: Kind, cells: &mut [u8], text: &mut [u8], at: usize) -> Answered {
+fn fresh_of(kind: Kind, cells: &mut [u8], text: &mut [u8], at: usize) -> Answered
+    ensures { λ r. ⌜ r .understood ≡ true ⌝ }
+{
     pieces::fill(cells, 0);
     Answered {
         record: slots::find::fresh(kind),
@@ -149,7 +162,10 @@ pub fn fresh_line(
     cells: &mut [u8],
     text: &mut [u8],
     at: usize,
-) -> Answered {
+) -> Answered
+    ensures { λ r. ⌜ Unanswered state at (now (text .entry)) r (now (text .exit)) ⌝ }
+    ensures { λ r. ⌜ Untouched (now (cells .entry)) r (now (cells .exit)) ⌝ }
+{
     let kind = words::name_from(line, from);
     if !words::is_last(line, kind.next) {
         return unanswered(state, at);
@@ -239,13 +255,9 @@ fn say_kind(kind: Kind, text: &mut [u8], at: usize) -> usize {
 }
 
 // `record`.
-pub fn record_line(
-    state: Record,
-    line: &[u8],
-    from: usize,
-    text: &mut [u8],
-    at: usize,
-) -> Answered {
+pub fn record_line(state: Record, line: &[u8], from: usize, text: &mut [u8], at: usize) -> Answered
+    ensures { λ r. ⌜ Unanswered state at (now (text .entry)) r (now (text .exit)) ⌝ }
+{
     if !words::is_last(line, from) {
         return unanswered(state, at);
     }

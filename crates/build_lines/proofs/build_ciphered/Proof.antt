@@ -1,0 +1,97 @@
+-- `build_ciphered` meets its contract: a line that is not understood comes back before anything is written, and of one that is the promise asks nothing. Assumes nothing.
+use Rattle.lines.specs.Texts.{saidSteps}
+use Rattle.build_lines.proofs.build_ciphered.Statement.{statement}
+use Rattle.build_lines.proofs.build_ciphered.Tie as tie
+
+slice-aggregate-fields-from : tie.Need-slice-aggregate-fields-from
+slice-aggregate-fields-from c = search saidSteps
+
+fields-from-requires : tie.Need-fields-from-requires
+fields-from-requires c κs = search saidSteps
+
+number-from-requires : tie.Need-number-from-requires
+number-from-requires c κs = search saidSteps
+
+slice-aggregate-last-octets : tie.Need-slice-aggregate-last-octets
+slice-aggregate-last-octets c = search saidSteps
+
+last-octets-requires : tie.Need-last-octets-requires
+last-octets-requires c κs = search saidSteps
+
+not-understood-requires : tie.Need-not-understood-requires
+not-understood-requires c κs = search saidSteps
+
+returns : tie.Need-returns
+returns c = search saidSteps
+
+narrow-requires : tie.Need-narrow-requires
+narrow-requires c κs = search saidSteps
+
+enum-told : tie.Need-enum-told
+enum-told c = search saidSteps
+
+slice-aggregate-first-of : tie.Need-slice-aggregate-first-of
+slice-aggregate-first-of c = search saidSteps
+
+first-of-requires : tie.Need-first-of-requires
+first-of-requires c κs = search saidSteps
+
+ciphered-command-requires : tie.Need-ciphered-command-requires
+ciphered-command-requires c κs = search saidSteps
+
+understood-requires : tie.Need-understood-requires
+understood-requires c κs = search saidSteps
+
+enum-told-2 : tie.Need-enum-told-2
+enum-told-2 c = search saidSteps
+
+slice-aggregate-first-of-2 : tie.Need-slice-aggregate-first-of-2
+slice-aggregate-first-of-2 c = search saidSteps
+
+first-of-requires-2 : tie.Need-first-of-requires-2
+first-of-requires-2 c κs = search saidSteps
+
+ciphered-response-requires : tie.Need-ciphered-response-requires
+ciphered-response-requires c κs = search saidSteps
+
+understood-requires-2 : tie.Need-understood-requires-2
+understood-requires-2 c κs = search saidSteps
+
+same-length : tie.Need-same-length
+same-length c = search saidSteps
+
+returns-2 : tie.Need-returns-2
+returns-2 c = search saidSteps
+
+same-length-2 : tie.Need-same-length-2
+same-length-2 c = search saidSteps
+
+returns-3 : tie.Need-returns-3
+returns-3 c = search saidSteps
+
+pub build-ciphered-spec : {M : Type 1} → statement M
+build-ciphered-spec =
+    tie.close
+    (tie.spec
+    slice-aggregate-fields-from
+    fields-from-requires
+    number-from-requires
+    slice-aggregate-last-octets
+    last-octets-requires
+    not-understood-requires
+    returns
+    narrow-requires
+    enum-told
+    slice-aggregate-first-of
+    first-of-requires
+    ciphered-command-requires
+    understood-requires
+    enum-told-2
+    slice-aggregate-first-of-2
+    first-of-requires-2
+    ciphered-response-requires
+    understood-requires-2
+    same-length
+    returns-2
+    same-length-2
+    returns-3)

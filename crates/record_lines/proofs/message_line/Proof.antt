@@ -1,0 +1,77 @@
+-- `message_line` meets its contract: a line that is not understood comes back before anything is written, and of one that is the promise asks nothing. Assumes nothing.
+use Rattle.record_lines.specs.Lines.{answeredSteps}
+use Rattle.record_lines.proofs.message_line.Statement.{statement}
+use Rattle.record_lines.proofs.message_line.Tie as tie
+
+slice-aggregate-fields-from : tie.Need-slice-aggregate-fields-from
+slice-aggregate-fields-from c = search answeredSteps
+
+slice-aggregate-fields-from-2 : tie.Need-slice-aggregate-fields-from-2
+slice-aggregate-fields-from-2 c = search answeredSteps
+
+fields-from-requires : tie.Need-fields-from-requires
+fields-from-requires c κs = search answeredSteps
+
+slice-aggregate-last-octets : tie.Need-slice-aggregate-last-octets
+slice-aggregate-last-octets c = search answeredSteps
+
+last-octets-requires : tie.Need-last-octets-requires
+last-octets-requires c κs = search answeredSteps
+
+unanswered-requires : tie.Need-unanswered-requires
+unanswered-requires c κs = search answeredSteps
+
+returns : tie.Need-returns
+returns c = search answeredSteps
+
+sender-of-requires : tie.Need-sender-of-requires
+sender-of-requires c κs = search answeredSteps
+
+slice-aggregate-first-of : tie.Need-slice-aggregate-first-of
+slice-aggregate-first-of c = search answeredSteps
+
+first-of-requires : tie.Need-first-of-requires
+first-of-requires c κs = search answeredSteps
+
+slice-aggregate-take-message : tie.Need-slice-aggregate-take-message
+slice-aggregate-take-message c = search answeredSteps
+
+take-message-requires : tie.Need-take-message-requires
+take-message-requires c κs = search answeredSteps
+
+slice-aggregate-say-answer : tie.Need-slice-aggregate-say-answer
+slice-aggregate-say-answer c = search answeredSteps
+
+say-answer-requires : tie.Need-say-answer-requires
+say-answer-requires c κs = search answeredSteps
+
+same-length : tie.Need-same-length
+same-length c = search answeredSteps
+
+same-length-2 : tie.Need-same-length-2
+same-length-2 c = search answeredSteps
+
+returns-2 : tie.Need-returns-2
+returns-2 c = search answeredSteps
+
+pub message-line-spec : {M : Type 1} → statement M
+message-line-spec =
+    tie.close
+    (tie.spec
+    slice-aggregate-fields-from
+    slice-aggregate-fields-from-2
+    fields-from-requires
+    slice-aggregate-last-octets
+    last-octets-requires
+    unanswered-requires
+    returns
+    sender-of-requires
+    slice-aggregate-first-of
+    first-of-requires
+    slice-aggregate-take-message
+    take-message-requires
+    slice-aggregate-say-answer
+    say-answer-requires
+    same-length
+    same-length-2
+    returns-2)
