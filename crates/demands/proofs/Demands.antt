@@ -6,6 +6,7 @@ use Rattle.demands.specs.Demands.{Demand1, Demand2, Demand3}
 use Rattle.demands.proofs.Calls as calls
 use Rattle.demands.proofs.Wake as wake
 use Rattle.demands.proofs.Refusing as refusing
+use Rattle.demands.proofs.Orders as orders
 use Rattle.demands.proofs.RoundTrips as trips
 use Rattle.demands.proofs.SplitTaken as split
 
@@ -33,6 +34,7 @@ demand-2 = record {
   split-pages = trips.split-pages;
   messages-arrive = split.messages-arrive slotCount some;
   pages-arrive = split.pages-arrive slotCount some;
+  order-free = orders.order-free;
 }
 
 pub demand-3 : Demand3

@@ -1,4 +1,5 @@
 pub mod Examples
+pub mod Orders
 pub mod Lists
 pub mod Calls
 pub mod Track

@@ -6,6 +6,7 @@ use Rattle.packet.specs.Packets.{Fields}
 use Rattle.arrival.specs.declared.Key.{Key}
 use Rattle.slots.specs.Slots.{slotCount}
 use Rattle.demands.specs.Refusing.{TakingRefused, ParsingRefused, BuildingRefused, ChecksumRefused, WritingRefused, PageRefused}
+use Rattle.demands.specs.Orders.{OrderFree}
 use Rattle.demands.specs.RoundTrips.{BuildThenRead, CommandTells, ReadThenBuild, ParsedIsFormed, BuildsOrRefuses, SplitMessages, SplitPages}
 use Rattle.demands.specs.Wake.{WakeWindow, PacketComes}
 use Rattle.demands.specs.Always.{AlwaysFormed, NoKeyTwice}
@@ -22,7 +23,7 @@ pub record Demand1 : Type 0 where
   pub writing-a-page : PageRefused
 
 -- 2. The rules are 01's, and every public call equals its rule; "building then reading gives the same fields, and reading then building the
--- same octets"; what is split is put together again.
+-- same octets"; what is split is put together again; the order of a header's elements does not matter.
 pub record Demand2 : Type 0 where
   pub build-then-read : BuildThenRead
   pub command-tells : CommandTells
@@ -33,6 +34,7 @@ pub record Demand2 : Type 0 where
   pub split-pages : SplitPages
   pub messages-arrive : MessagesArrive slotCount
   pub pages-arrive : PagesArrive slotCount
+  pub order-free : OrderFree
 
 -- 3. The wake window, for either kind, every key, every packet and every cut of it; and "at no moment does one key occupy two slots".
 pub record Demand3 : Type 0 where

@@ -1,5 +1,6 @@
 pub mod Demands
 pub mod Examples
+pub mod Orders
 pub mod Runs
 pub mod Wake
 pub mod Always
