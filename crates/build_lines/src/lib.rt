@@ -56,7 +56,7 @@ fn plain_command(
     text: &mut [u8],
     at: usize,
 ) -> usize {
-    let check = texts::first_of(octets, middle);
+    let check = octets::up_to(octets, middle);
     let data = arrival::own_octets(octets, middle);
     let mut out = [0u8; 2142];
     let written = build::build_command(
@@ -78,7 +78,7 @@ fn plain_response(
     text: &mut [u8],
     at: usize,
 ) -> usize {
-    let check = texts::first_of(octets, middle);
+    let check = octets::up_to(octets, middle);
     let data = arrival::own_octets(octets, middle);
     let mut out = [0u8; 2142];
     let written = build::build_response(
@@ -141,14 +141,14 @@ fn build_plain(
     match kind {
         Kind::Command => texts::understood(plain_command(
             &head,
-            texts::first_of(&work, end),
+            octets::up_to(&work, end),
             two.middle,
             text,
             at,
         )),
         Kind::Response => texts::understood(plain_response(
             &head,
-            texts::first_of(&work, end),
+            octets::up_to(&work, end),
             two.middle,
             text,
             at,
@@ -181,14 +181,14 @@ fn build_ciphered(
         Kind::Command => texts::understood(ciphered_command(
             &head,
             length,
-            texts::first_of(&work, n),
+            octets::up_to(&work, n),
             text,
             at,
         )),
         Kind::Response => texts::understood(ciphered_response(
             &head,
             length,
-            texts::first_of(&work, n),
+            octets::up_to(&work, n),
             text,
             at,
         )),

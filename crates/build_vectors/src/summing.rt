@@ -10,7 +10,7 @@ fn data(packet: &[u8]) -> &[u8] {
     if packet.len() < 3 {
         return packet;
     }
-    vectors::behind(&packet[3..], vectors::wide(packet[2]))
+    vectors::behind(&packet[3..], octets::wide(packet[2]))
 }
 
 // How many octets stand before the packet.

@@ -3,6 +3,7 @@ use mathlib.Core.Path.{_≡_, refl}
 use mathlib.Core.List.{List}
 use Prim.Native.Nat.{ℕ}
 use lib.ListN.{length}
+use Rattle.joined.specs.Fronts.{packetIn}
 use Rattle.demands.specs.Examples.{examples, Every, Right}
 use borrow.Author.Tests.{eq-eqb}
 use Rattle.octets.specs.Octets.{sameOctets, placed}
@@ -13,7 +14,7 @@ use Rattle.arrival.specs.Keys.{keyFormed, lengthFits}
 use Rattle.slots.specs.Below.{allBelow, anyBelow, countBelow}
 use Rattle.slots.specs.Slots.{find, aged, closed, toFront, freed}
 use Rattle.slots.specs.Formed.{allZero, usedFormed, slotFormed, keysDiffer, ranked, slotsFormed}
-use Rattle.series.specs.Cells.{cellPart, joined, joinedOctets, packetIn}
+use Rattle.series.specs.Cells.{cellPart, joined, joinedOctets}
 use Rattle.series.specs.Taking.{step, takePart, takeMessage, takePage}
 
 pub examples-right : Every Right examples

@@ -16,11 +16,12 @@ use Rattle.packet.specs.Packets.{Fields, wellFormed, mostOctets, mostChecksum, 
 use Rattle.arrival.specs.declared.Key.{Key}
 use Rattle.arrival.specs.Arrivals.{Brought, single, part}
 use Rattle.arrival.specs.Keys.{ofPages}
+use Rattle.joined.specs.Fronts.{packetIn}
 use Rattle.slots.specs.declared.Record.{Record}
 use Rattle.slots.specs.Slots.{slotAt, freed, withSlots}
 use Rattle.slots.specs.Formed.{recordFormed}
 use Rattle.slots.specs.FormedLaws.{Formed, formed-tells}
-use Rattle.series.specs.Cells.{cellsSize, joinedOctets, packetIn}
+use Rattle.series.specs.Cells.{cellsSize, joinedOctets}
 use Rattle.series.specs.Taking.{State, After, Answer, kept, heldAlready, packet, refused, Step, handOut, acted, step, takePart, taken, unfit, refuse}
 use Rattle.series.specs.CaseLaws.{Case, other-total, other-octets, again, last, more, opens, displaces, case-of}
 use Rattle.series.specs.Calls.{Input, octetsOf, read, take}

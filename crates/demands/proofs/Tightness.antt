@@ -2,6 +2,7 @@
 use Prim.Native.Nat.{ℕ, _+_, _-_}
 use mathlib.Core.Path.{_≡_, refl, sym, ap, _∙_}
 use mathlib.Core.List.{List, [], _∷_}
+use mathlib.Core.Option.{Option, none, some}
 use lib.ListN.{getD}
 use Rattle.packet.specs.declared.Refusal.{Refusal}
 use Rattle.packet.specs.declared.Refusal.the-variants.{BufferOrRecord, Size, Header, Element, Identifier, Total, OtherTotal, OtherOctets, NotWellFormed, Cipher, HeaderLength, PacketLength, Reference, Number}
@@ -22,10 +23,18 @@ use Rattle.packet.specs.declared.Written.{Written}
 use Rattle.packet.specs.declared.Written.the-variants as written
 use Rattle.packet.specs.Refusals.{Outcome, refused, gives, Lent, numberOf, toldWritten}
 use Rattle.packet.specs.Packets.{Parsed, plainParsed, cipheredParsed}
+use Rattle.packet.specs.declared.read.Judged.{Judged}
+use Rattle.packet.specs.declared.read.Judged.the-variants as judged
 use Rattle.packet.specs.Told.{toldCommand, toldResponse}
+use Rattle.packet.specs.Judging.{toldJudged}
 use Rattle.arrival.specs.declared.Arrival.{Arrival}
 use Rattle.arrival.specs.declared.Arrival.the-variants as arrival
 use Rattle.arrival.specs.Arrivals.{Brought, single, part, toldArrival}
+use Rattle.joined.specs.declared.Size as joined
+use Rattle.joined.specs.Fronts.{toldSize}
+use Rattle.slots.specs.declared.find.Found.{Found}
+use Rattle.slots.specs.declared.find.Found.the-variants as found
+use Rattle.slots.specs.Found.{toldFound}
 use Rattle.series.specs.declared.Answer.{Answer}
 use Rattle.series.specs.declared.Answer.the-variants as answer
 use Rattle.series.specs.declared.Taken.{Taken}
@@ -160,6 +169,34 @@ taken-back : (r : Taken × (List ℕ × List ℕ)) → takenOf (toldTaken r) ≡
 unfolding takenOf
 taken-back (r, (cells, output)) = ap (λ (x : Answer). (record { answer = x; «record» = r .«record» }, (cells, output))) (answer-back (r .answer))
 
+-- ---- calls between crates
+judgedOf : Outcome ℕ → Judged
+judgedOf (refused n) = judged.Refused (refusalOf n)
+judgedOf (gives h) = judged.Readable h
+
+judged-back : (r : Judged) → judgedOf (toldJudged r) ≡ r
+unfolding judgedOf
+judged-back (judged.Readable h) = refl
+judged-back (judged.Refused r) = ap judged.Refused (refusal-back r)
+
+sizeOf : Option ℕ → joined.Size
+sizeOf none = joined.the-variants.None
+sizeOf (some n) = joined.the-variants.Octets n
+
+size-back : (r : joined.Size) → sizeOf (toldSize r) ≡ r
+unfolding sizeOf
+size-back (joined.the-variants.Octets n) = refl
+size-back joined.the-variants.None = refl
+
+foundOf : Option ℕ → Found
+foundOf none = found.Nothing
+foundOf (some i) = found.At i
+
+found-back : (r : Found) → foundOf (toldFound r) ≡ r
+unfolding foundOf
+found-back (found.At i) = refl
+found-back found.Nothing = refl
+
 pub promises : Promises
 promises = record {
   refusal-number = tight numberOf refusalOf refusal-back;
@@ -169,6 +206,9 @@ promises = record {
   read-message-and-page = tight toldArrival arrivalOf arrival-back;
   take-message-and-page = tight toldTaken takenOf taken-back;
   write-message-and-page = tight toldPart partOf part-back;
+  judge = tight toldJudged judgedOf judged-back;
+  packet-size = tight toldSize sizeOf size-back;
+  find-key = tight toldFound foundOf found-back;
 }
 
 pub plain-promises : PlainPromises

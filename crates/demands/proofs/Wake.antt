@@ -14,9 +14,9 @@ use Rattle.packet.specs.Packets.{mostOctets, wellFormed}
 use Rattle.arrival.specs.declared.Key.{Key}
 use Rattle.arrival.specs.Arrivals.{Brought, single, part}
 use Rattle.arrival.specs.Laws.{Admitted, message-part, page-part}
+use Rattle.joined.specs.Fronts.{packetIn}
 use Rattle.slots.specs.BelowLaws.{all-at, all-hold}
 use Rattle.slots.specs.Slots.{sameKey}
-use Rattle.series.specs.Cells.{packetIn}
 use Rattle.series.specs.Taking.{State, After, state, handOut, acted, step, takePart, taken}
 use Rattle.series.specs.Calls.{Input, message, page, read, octetsOf}
 use Rattle.series.specs.CaseLaws.{Lacks, Case, case-of}

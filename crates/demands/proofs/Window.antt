@@ -19,6 +19,7 @@ use Rattle.arrival.specs.declared.Key.{Key}
 use Rattle.arrival.specs.Message.{mostParts}
 use Rattle.arrival.specs.Keys.{ofPages}
 use Rattle.arrival.specs.Laws.{Admitted}
+use Rattle.joined.specs.Fronts.{packetIn}
 use Rattle.slots.specs.declared.Slot.{Slot}
 use Rattle.slots.specs.Below.{allBelow}
 use Rattle.slots.specs.BelowLaws.{all-at, all-same, count-at-most}
@@ -28,7 +29,7 @@ use Rattle.slots.specs.RankLaws.{taken, pos-taken, aged-taken, closed-taken, ra
 use Rattle.slots.specs.FrontLaws.{front-here, front-there, freed-here, freed-there}
 use Rattle.slots.specs.FormedLaws.{Formed, UsedSlot, slot-tells}
 use Rattle.series.specs.PartLaws.{total-bounds}
-use Rattle.series.specs.Cells.{cellOctets, cellsSize, cellAt, cellPart, joined, partOf, joinedOctets, packetIn}
+use Rattle.series.specs.Cells.{cellOctets, cellsSize, cellAt, cellPart, joined, partOf, joinedOctets}
 use Rattle.series.specs.CellLaws.{part-by-length, cell-there}
 use Rattle.series.specs.Taking.{State, After, state, Step, refuses, repeats, keeps, finishes, completes, acted, handOut}
 use Rattle.series.specs.CaseLaws.{Bears, Lacks, Case, other-total, other-octets, again, last, more, opens, displaces}

@@ -9,8 +9,11 @@ use Rattle.packet.specs.declared.ParsedCommand.{ParsedCommand}
 use Rattle.packet.specs.declared.ParsedResponse.{ParsedResponse}
 use Rattle.packet.specs.Refusals.{Lent, lent, numberOf, toldWritten}
 use Rattle.packet.specs.Told.{toldCommand, toldResponse}
+use Rattle.packet.specs.Judging.{toldJudged}
 use Rattle.arrival.specs.declared.Arrival.{Arrival}
 use Rattle.arrival.specs.Arrivals.{toldArrival}
+use Rattle.joined.specs.Fronts.{toldSize}
+use Rattle.slots.specs.Found.{toldFound}
 use Rattle.series.specs.declared.Taken.{Taken}
 use Rattle.series.specs.Taking as taking
 use Rattle.split.specs.declared.WrittenPart.{WrittenPart}
@@ -47,8 +50,13 @@ pub record Promises : Type 0 where
   pub take-message-and-page : Tight toldTaken
   -- write_message, write_page
   pub write-message-and-page : Tight toldPart
+  -- and of the calls between crates: judge, packet_size, find_key
+  pub judge : Tight toldJudged
+  pub packet-size : Tight toldSize
+  pub find-key : Tight toldFound
 
--- Where the promise is that the outcome itself is what the rule says, nothing else can be told of it: pair_of, number_of, put (the answer and
--- the buffer), same, formed, well_formed, fresh, record_formed, and the octets of the part that a showing call or own_octets gives.
+-- Where the promise is that the outcome itself is what the rule says, nothing else can be told of it: wide, pair_of, number_of, put (the answer
+-- and the buffer), same, formed, well_formed, fresh, record_formed, the octets of the part that a showing call, up_to or own_octets gives, and
+-- the other calls between crates: before, least, cipher_bit, ciphered_command, no_front, octet_after, opened, free_slot, new_place.
 abbrev pub PlainPromises : Type 1
 PlainPromises = (Outcome : Type 0) → Tight {Outcome = Outcome} {Paper = Outcome} (λ r. r)

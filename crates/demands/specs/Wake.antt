@@ -12,9 +12,10 @@ use Rattle.packet.specs.Packets.{wellFormed}
 use Rattle.arrival.specs.declared.Key.{Key}
 use Rattle.arrival.specs.Arrivals.{Brought, single, part}
 use Rattle.arrival.specs.Keys.{ofPages}
+use Rattle.joined.specs.Fronts.{pagesAllow}
 use Rattle.slots.specs.Below.{allBelow}
 use Rattle.slots.specs.Slots.{slotAt, sameKey}
-use Rattle.series.specs.Cells.{cellsSize, pagesAllow}
+use Rattle.series.specs.Cells.{cellsSize}
 use Rattle.series.specs.Taking.{After, Answer, kept, heldAlready, packet, refused}
 use Rattle.series.specs.CaseLaws.{Bears, Lacks}
 use Rattle.series.specs.Calls.{read, octetsOf}

@@ -6,7 +6,6 @@ use packet::Refusal;
 use packet::Written;
 ghost use mathlib.Core.Bool.{true, false};
 ghost use mathlib.Core.Path.{_≡_};
-ghost use lib.ListN.{take};
 ghost use Rattle.octets.specs.Octets.{afterPut};
 ghost use Rattle.lines.specs.Digits.{octetsText};
 ghost use Rattle.lines.specs.Texts.{endOf, Printed};
@@ -59,20 +58,10 @@ pub fn say_end(text: &mut [u8], at: usize) -> usize {
     say(b"\n", text, at)
 }
 
-// The first n octets, or all where there are fewer.
-pub fn first_of(octets: &[u8], n: usize) -> &[u8]
-    ensures { λ r. ⌜ now r ≡ take n (now (octets .entry)) ⌝ }
-{
-    if n <= octets.len() {
-        return &octets[..n];
-    }
-    octets
-}
-
 // A number n, the first n octets, and the end of the line.
 pub fn say_counted(n: usize, octets: &[u8], text: &mut [u8], at: usize) -> usize {
     let at = say_count(n, text, at);
-    let at = say_field(first_of(octets, n), text, at);
+    let at = say_field(octets::up_to(octets, n), text, at);
     say_end(text, at)
 }
 

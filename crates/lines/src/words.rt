@@ -128,13 +128,6 @@ fn name_of(word: &[u8]) -> Name {
     Name::Other
 }
 
-// An octet as a count.
-fn wide(x: u8) -> usize
-    ensures { λ r. ⌜ (r ≡ x) × (r < 256) ⌝ }
-{
-    x as usize
-}
-
 // Reads the next word as octets, to the start of room.
 pub fn octets_from(line: &[u8], from: usize, room: &mut [u8]) -> Field
     ensures { λ r. ⌜ Counts (r .count) (now (room .exit)) ⌝ }
@@ -198,13 +191,14 @@ pub fn fields_from(line: &[u8], from: usize, lengths: &[u8], room: &mut [u8]) ->
     let mut at = 0;
     let mut i = 0;
     while i < lengths.len() {
-        let end = at + wide(lengths[i]);
-        if room.len() < end {
+        let n = octets::wide(lengths[i]);
+        if room.len() - at < n {
             return Place {
                 understood: false,
                 next: from,
             };
         }
+        let end = at + n;
         let place = fixed_from(line, next, &mut room[at..end]);
         if !place.understood {
             return place;

@@ -6,11 +6,18 @@ use mathlib.Core.List.{List, _++_, append-nil}
 use native.Mathlib.Omega.{arith}
 use native.Mathlib.Nat.{add-sub-cancel-left}
 use lib.ListN.{length, take, drop, length-take, drop-of-length-le}
-use lib.Seq.{take-length, drop-drop}
+use lib.Seq.{take-length, take-all, length-take-le, drop-drop}
 use borrow.Author.Needs.{needs}
 use borrow.Author.Tests.{le-leb, lt-leb}
 use Rattle.octets.specs.Octets.{placed, fitsAt, afterPut, sameOctets}
 use Rattle.octets.specs.Laws.{same-self, same-true}
+
+-- the first of a slice: n of them, or all
+pub take-count : (n : ℕ) (p : List ℕ) → n < length p → n ≡ length (take n p)
+take-count n p l = sym (length-take-le n p (omega arith))
+
+pub take-whole : (n : ℕ) (p : List ℕ) → length p ≤ n → p ≡ take n p
+take-whole n p l = sym (take-all n p l)
 
 module _ (d : List ℕ) (at : ℕ) (p : List ℕ) where
   no-room : length d < at + length p → fitsAt d at p ≡ false
@@ -52,6 +59,8 @@ same-told false a b h = go (sameOctets a b) refl
 
 pub ruleset steps = (
   needs,
+  take-count,
+  take-whole,
   past-refused,
   past-unchanged,
   short-refused,

@@ -1,5 +1,6 @@
-// Octets: a 16-bit number as two of them, octets put into a lent slice, and two slices compared.
+// Octets: one as a length, two as a 16-bit number, the first of a slice, octets put into a lent slice, and two slices compared.
 ghost use mathlib.Core.Path.{_≡_};
+ghost use lib.ListN.{take};
 ghost use Rattle.octets.specs.Octets.{pairOf, numberOf, fitsAt, afterPut, sameOctets};
 
 // Two octets of a 16-bit number, the high one first, as they stand on the air.
@@ -12,8 +13,15 @@ pub fn pair_of(n: u16) -> Pair
     Pair((n / 256) as u8, (n % 256) as u8)
 }
 
+// An octet as a length.
+pub fn wide(x: u8) -> usize
+    ensures { λ r. ⌜ r ≡ x ⌝ }
+{
+    x as usize
+}
+
 // An octet as a number of 16 bits.
-fn wide(x: u8) -> u16
+fn half(x: u8) -> u16
     ensures { λ r. ⌜ r ≡ x ⌝ }
 {
     x as u16
@@ -23,7 +31,17 @@ fn wide(x: u8) -> u16
 pub fn number_of(high: u8, low: u8) -> u16
     ensures { λ r. ⌜ r ≡ numberOf high low ⌝ }
 {
-    wide(high) * 256 + wide(low)
+    half(high) * 256 + half(low)
+}
+
+// The first n octets of a slice, where they lie, or all where there are fewer.
+pub fn up_to<'a>(src: &'a [u8], n: usize) -> &'a [u8]
+    ensures { λ r. ⌜ now r ≡ take n (now (src .entry)) ⌝ }
+{
+    if n < src.len() {
+        return &src[..n];
+    }
+    src
 }
 
 // Puts src into dst from the place `at` on, and says whether it fits there; where it does not, dst stays as it was.

@@ -32,10 +32,3 @@ pub fn cipher_bit(spi: u8) -> bool
 {
     spi / 4 % 2 == 1
 }
-
-// An octet as a length.
-pub fn wide(x: u8) -> usize
-    ensures { λ r. ⌜ r ≡ x ⌝ }
-{
-    x as usize
-}

@@ -32,7 +32,7 @@ pub fn formed(kind: Kind, size: usize, high: u8, low: u8, header: u8) -> bool
     ensures { λ r. ⌜ r ≡ formedBy kind size high low header ⌝ }
 {
     let cpl = octets::number_of(high, low) as usize;
-    let chl = layout::wide(header);
+    let chl = octets::wide(header);
     let least = layout::least(kind);
     (cpl + 2 == size) & (least <= chl) & (chl + 1 <= cpl)
 }
@@ -68,7 +68,7 @@ fn header_of(packet: &[u8]) -> usize
     requires { ⌜ 3 ≤ length (now packet) ⌝ }
     ensures { λ r. ⌜ r ≡ chl (now (packet .entry)) ⌝ }
 {
-    layout::wide(packet[2])
+    octets::wide(packet[2])
 }
 
 // Whether a packet can be read: 9, then 12.

@@ -167,7 +167,7 @@ pub fn command_line(line: &[u8], from: usize, text: &mut [u8], at: usize) -> Sai
         return texts::not_understood(at);
     }
     let n = packet.count;
-    texts::understood(parse_command(texts::first_of(&work, n), text, at))
+    texts::understood(parse_command(octets::up_to(&work, n), text, at))
 }
 
 // `response plain PACKET`, `response ciphered PACKET`.
@@ -181,7 +181,7 @@ pub fn response_line(line: &[u8], from: usize, text: &mut [u8], at: usize) -> Sa
         return texts::not_understood(at);
     }
     let n = packet.count;
-    texts::understood(parse_response(texts::first_of(&work, n), mode.ciphered, text, at))
+    texts::understood(parse_response(octets::up_to(&work, n), mode.ciphered, text, at))
 }
 
 // ---- checksum octets
@@ -196,7 +196,7 @@ fn command_checksum_line(line: &[u8], from: usize, text: &mut [u8], at: usize) -
     }
     let n = packet.count;
     let mut out = [0u8; 2145];
-    let written = checksum::command_checksum(texts::first_of(&work, n), &mut out);
+    let written = checksum::command_checksum(octets::up_to(&work, n), &mut out);
     texts::understood(texts::say_written(b"octets", written, &out, text, at))
 }
 
@@ -212,7 +212,7 @@ fn response_checksum_line(line: &[u8], from: usize, text: &mut [u8], at: usize) 
     }
     let n = packet.count;
     let mut out = [0u8; 2145];
-    let written = checksum::response_checksum(texts::first_of(&work, n), mode.ciphered, &mut out);
+    let written = checksum::response_checksum(octets::up_to(&work, n), mode.ciphered, &mut out);
     texts::understood(texts::say_written(b"octets", written, &out, text, at))
 }
 

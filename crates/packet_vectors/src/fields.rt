@@ -37,7 +37,7 @@ fn command_body(body: CommandBody) {
         CommandBody::Plain(p) => {
             let c = p.cntr;
             cntr(c);
-            report::number(b"PCNTR", vectors::wide(p.pcntr));
+            report::number(b"PCNTR", octets::wide(p.pcntr));
         }
         CommandBody::Ciphered(o) => report::number(b"opaque", o.octets),
     }
@@ -47,8 +47,8 @@ fn command_body(body: CommandBody) {
 fn status(p: PlainResponse) {
     report::numbers(
         b"PCNTR and status",
-        vectors::wide(p.pcntr),
-        vectors::wide(p.status),
+        octets::wide(p.pcntr),
+        octets::wide(p.status),
     );
 }
 

@@ -9,7 +9,7 @@ use vectors::either::What;
 
 // What a ciphered body comes to.
 fn opaque(o: Opaque) {
-    report::numbers(b"header and opaque", vectors::wide(o.header), o.octets);
+    report::numbers(b"header and opaque", octets::wide(o.header), o.octets);
 }
 
 // What a plain body comes to.

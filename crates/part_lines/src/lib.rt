@@ -41,7 +41,7 @@ fn write_message_line(kind: Kind, line: &[u8], from: usize, text: &mut [u8], at:
         width.value,
         reference.value,
         number.value,
-        texts::first_of(&work, n),
+        octets::up_to(&work, n),
         &mut out,
     );
     texts::understood(say_part(part, &out, text, at))
@@ -68,7 +68,7 @@ fn write_page_line(line: &[u8], from: usize, text: &mut [u8], at: usize) -> Said
         identifier,
         head[4],
         number.value,
-        texts::first_of(&work, n),
+        octets::up_to(&work, n),
         &mut out,
     );
     texts::understood(say_part(part, &out, text, at))

@@ -99,7 +99,7 @@ pub fn message_line(
     let taken = series::take::take_message(
         state,
         sender_of(&head),
-        texts::first_of(&work, n),
+        octets::up_to(&work, n),
         cells,
         &mut out,
     );
@@ -131,7 +131,7 @@ pub fn page_line(
     }
     let n = page.count;
     let mut out = [0u8; MOST_OCTETS];
-    let taken = series::take::take_page(state, texts::first_of(&work, n), cells, &mut out);
+    let taken = series::take::take_page(state, octets::up_to(&work, n), cells, &mut out);
     let answer = taken.answer;
     let record = taken.record;
     Answered {

@@ -38,7 +38,7 @@ fn start() -> Session {
 
 // Writes the text up to a place.
 fn write(text: &[u8], end: usize) {
-    let is_written = io::write_all(STDOUT_FILENO, texts::first_of(text, end));
+    let is_written = io::write_all(STDOUT_FILENO, octets::up_to(text, end));
     if !is_written {
         os::fail(b"write");
     }
@@ -116,7 +116,7 @@ fn take(line: &[u8], s: Session, cells: &mut [u8], text: &mut [u8]) -> Session {
 // Takes what is gathered of a line.
 fn take_held(s: Session, held: &[u8], cells: &mut [u8], text: &mut [u8]) -> Session {
     let gathered = s.line;
-    take(texts::first_of(held, gathered.count), s, cells, text)
+    take(octets::up_to(held, gathered.count), s, cells, text)
 }
 
 // Takes the characters up to a line's end, or up to the end of a piece. A line that lies in one piece is answered where it stands.

@@ -14,24 +14,15 @@ use Rattle.octets.specs.Laws.{put-fits, length-placed}
 use Rattle.packet.specs.declared.Kind.{Kind}
 use Rattle.packet.specs.Packets.{formedBy}
 use Rattle.arrival.specs.Message.{mostParts}
-use Rattle.series.specs.declared.packets.Front.{Front}
+use Rattle.joined.specs.declared.Front.{Front}
+use Rattle.joined.specs.Fronts.{frontOf, octetAfter, frontAfter}
 use Rattle.slots.specs.Slots.{slotCount}
-use Rattle.series.specs.Cells.{cellOctets, cellsSize, joined, pagesAllow}
-use Rattle.series.specs.Handing.{Short, pieceOf, frontOf, octetAfter, frontAfter, sizeIn, holdsPacket, sizeBy}
+use Rattle.series.specs.Cells.{cellOctets, cellsSize, joined}
+use Rattle.series.specs.Handing.{Short, pieceOf}
 use Rattle.series.proofs.CellLaws.{part-from, same-as, stored, short-at, piece-new, piece-held, piece-length, joined-none, joined-more, joined-length, start-written, Written, written-none, written-more}
-use Rattle.series.proofs.FrontLaws.{front-more, none-told, none-kept, packet-inside, packet-fits, packet-told, packet-written}
+use Rattle.joined.specs.Laws.{front-more, none-told, none-kept, packet-inside, packet-fits, packet-told, packet-written}
 
 -- ---- the front
-module _ (i n held : ℕ) (p : List ℕ) where
-  pub octet-held : i < n → held ≡ octetAfter i n held p
-  octet-held l = rw (lt-ltb i n l)
-
-  pub octet-new : n ≤ i → getD p (i - n) 0 ≡ octetAfter i n held p
-  octet-new l = rw (le-ltb i n l)
-
-  pub octet-none : n ≤ i → length p ≤ i - n → 0 ≡ octetAfter i n held p
-  octet-none l m = rw (le-ltb i n l) (sym (List·getD-eq-default p 0 m))
-
 module _ (f : Front) (p : List ℕ) where
   pub front-seen : 3 ≤ f .count
       → record { count = f .count + length p; high = f .high; low = f .low; header = f .header } ≡ frontAfter f p
@@ -74,38 +65,7 @@ module _ (cells lengths : List ℕ) (s number : ℕ) (part : List ℕ) where
       go (suc n) h =
           omega (arith, joined-length piece 0 n (omega (arith, each 1 (omega arith) (omega arith))) (λ i a b. each i a (omega arith)))
 
--- ---- the packet's length
-module _ (paged : Bool) (f : Front) where
-  pub size-all : not paged ≡ true → f .count ≡ sizeIn paged f
-  size-all e = rw (not-true paged e)
-
-  module _ (n : ℕ) (e : not paged ≡ false) (is : n ≡ numberOf (f .high) (f .low)) where
-    pub size-stated : n + 2 ≤ f .count → n + 2 ≡ sizeIn paged f
-    size-stated l = rw (not-false paged e) (omega arith)
-
-    pub size-fewer : f .count < n + 2 → f .count ≡ sizeIn paged f
-    size-fewer l = rw (not-false paged e) (omega arith)
-
-  module _ (k : Kind) (t size : ℕ) (a b : Bool) (counts : size ≡ sizeIn paged f)
-      (formed : a ≡ formedBy k size (f .high) (f .low) (f .header)) (allowed : b ≡ pagesAllow t size) where
-    tested : (a && (not paged || b)) ≡ holdsPacket k paged t f
-    tested = rw (formed, allowed, counts)
-
-    pub packet-there : (a && (not paged || b)) ≡ true → some size ≡ sizeBy k paged t f
-    unfolding sizeBy
-    packet-there h = rw (← tested, h, counts)
-
-    pub packet-none : (a && (not paged || b)) ≡ false → none ≡ sizeBy k paged t f
-    unfolding sizeBy
-    packet-none h = rw (← tested, h)
-
 -- ---- writing
-pub take-count : (n : ℕ) (p : List ℕ) → n < length p → n ≡ length (take n p)
-take-count n p l = sym (length-take-le n p (omega arith))
-
-pub take-whole : (n : ℕ) (p : List ℕ) → length p ≤ n → p ≡ take n p
-take-whole n p l = sym (take-all n p l)
-
 -- what is put up to the limit stands there, inside the buffer, which keeps its length
 module _ (p q d e : List ℕ) (limit at : ℕ) (is : q ≡ take (limit - at) p) where
   pub put-past : at + length q ≡ at + length (take (limit - at) p)
@@ -151,9 +111,6 @@ pub ruleset cellSteps = (
   short-at,
   piece-new,
   piece-held,
-  octet-held,
-  octet-new,
-  octet-none,
   front-seen,
   front-octets,
   front-first,
@@ -162,13 +119,6 @@ pub ruleset cellSteps = (
   front-next,
   front-all,
   count-joined,
-  size-all,
-  size-stated,
-  size-fewer,
-  packet-there,
-  packet-none,
-  take-count,
-  take-whole,
   put-past,
   put-inside,
   place-next,

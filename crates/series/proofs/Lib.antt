@@ -1,7 +1,6 @@
 pub mod OrderLaws
 pub mod OrderSteps
 pub mod CellLaws
-pub mod FrontLaws
 pub mod CellSteps
 pub mod TakeLaws
 pub mod TakeSteps

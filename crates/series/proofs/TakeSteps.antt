@@ -22,24 +22,25 @@ use Rattle.arrival.specs.Message.{mostParts, readMessage}
 use Rattle.arrival.specs.Page.{readPage}
 use Rattle.arrival.specs.Keys.{ofPages}
 use Rattle.arrival.specs.Laws.{Admitted}
+use Rattle.joined.specs.Fronts.{packetIn, toldSize, lengthIn, outputWith}
 use Rattle.slots.specs.declared.Slot.{Slot}
 use Rattle.slots.specs.declared.Record.{Record}
-use Rattle.series.specs.declared.packets.Size.{Size}
-use Rattle.series.specs.declared.packets.Size.the-variants as size
+use Rattle.joined.specs.declared.Size.{Size}
+use Rattle.joined.specs.declared.Size.the-variants as size
 use Rattle.slots.specs.declared.find.Found.{Found}
 use Rattle.slots.specs.declared.find.Found.the-variants.{At, Nothing}
-use Rattle.series.specs.declared.take.Opening.{Opening}
+use Rattle.slots.specs.declared.find.Opening.{Opening}
 use Rattle.series.specs.declared.take.Step as code
 use Rattle.series.specs.declared.take.Step.the-variants.{Refuses, Repeats, Keeps, Finishes}
 use Rattle.slots.specs.BelowLaws.{all-from, all-more, all-through}
-use Rattle.slots.specs.Found.{toldFound, found-inside}
+use Rattle.slots.specs.Found.{toldFound, found-inside, openingIn, newPlace}
 use Rattle.slots.specs.Slots.{slotCount, slotAt, bears, isFree, find, leastRecent, opened, heldAt, lengthAt, withPart, toFront, freed, withSlots}
 use Rattle.slots.specs.Formed.{recordFormed}
-use Rattle.series.specs.Cells.{cellsSize, cellAt, cellPart, joinedOctets, packetIn}
-use Rattle.series.specs.Handing.{Short, cellStart, seriesOctets, toldSize, lengthIn, outputWith}
+use Rattle.series.specs.Cells.{cellsSize, cellAt, cellPart, joinedOctets}
+use Rattle.series.specs.Handing.{Short, cellStart, seriesOctets}
 use Rattle.series.specs.Taking.{State, Answer, After, kept, heldAlready, packet, refused, state, after, handOut, completes, Step, refuses, repeats, keeps, finishes, stepNew, step, acted, takePart, takeMessage, takePage}
 use Rattle.series.specs.KeepLaws.{Sound}
-use Rattle.series.specs.Deciding.{allWith, toldStep, stepAt, openingIn, newPlace, answerOf, Room, Whole, Fitting, takenWhereFit}
+use Rattle.series.specs.Deciding.{allWith, toldStep, stepAt, answerOf, Room, Whole, Fitting, takenWhereFit}
 use Rattle.series.proofs.CellLaws.{cell-part, joined-pieces, short-at}
 use Rattle.series.proofs.TakeLaws as law
 use Rattle.series.proofs.TakeLaws.{message-fitting, page-fitting}
@@ -81,14 +82,6 @@ module _ (cells : List ℕ) (total number : ℕ) (octets : List ℕ) (i : ℕ) (
           → x .total ≡ total
       go true e h = eqb-true (x .total) total e
       go false e h = let z : _≡_ {A = ℕ} 0 1 = cc in absurd (omega arith)
-
--- where a new series goes
-module _ (n : ℕ) (xs : List Slot) (f : Found) (told : toldFound f ≡ find isFree xs) where
-  pub place-free : (i : ℕ) → f ≡ At i → record { slot = i; displaced = false } ≡ newPlace n xs
-  place-free i e = rw (← told, e)
-
-  pub place-least : (m : ℕ) → f ≡ Nothing → m ≡ leastRecent n xs → record { slot = m; displaced = true } ≡ newPlace n xs
-  place-least m e l = rw (← told, e, l)
 
 -- ---- acting
 pub part-kept : (r r′ : Record) (i number n : ℕ) (x y : Slot) → y ≡ withPart x number n → r′ ≡ withSlots r (toFront (r .slots) i y)
@@ -276,8 +269,6 @@ pub ruleset decideSteps = (
   new-last,
   new-more,
   found-inside,
-  place-free,
-  place-least,
 )
 
 pub ruleset actSteps = (

@@ -34,17 +34,3 @@ partOf cells x s number part k = cond (eqb k number) part (cellPart cells x s k)
 
 unfoldable pub joinedOctets : List ℕ → Slot → ℕ → ℕ → List ℕ → List ℕ
 joinedOctets cells x s number part = joined (partOf cells x s number part) (x .total)
-
--- ---- the packet in joined octets
--- "A packet in t pages has 82(t − 1) + 1 to 82t octets; what follows it in the last page is filler and is not handed out."
-abbrev pub pagesAllow : ℕ → ℕ → Bool
-pagesAllow t size = leb (pageContent * (t - 1) + 1) size && leb size (pageContent * t)
-
-abbrev pub packetOctets : Bool → List ℕ → List ℕ
-packetOctets false o = o
-packetOctets true o = take (cpl o + 2) o
-
--- "If the joined octets in number order are well formed (for pages the first CPL + 2 of them, a length the pages allow)"
-unfoldable pub packetIn : Kind → Bool → ℕ → List ℕ → Option (List ℕ)
-packetIn k paged t o =
-    cond (wellFormed k (packetOctets paged o) && (not paged || pagesAllow t (cpl o + 2))) (some (packetOctets paged o)) none

@@ -1,4 +1,4 @@
--- What the functions that take a part cite of one another: the step that is due, where a new series goes, and what acting may rely on.
+-- What the functions that take a part cite of one another: the step that is due, and what acting may rely on.
 use Prim.Native.Nat.{ℕ, _+_, _≤_, _<_}
 use mathlib.Core.Bool.{Bool, true, false, cond, _||_}
 use mathlib.Core.List.{List, []}
@@ -16,11 +16,10 @@ use Rattle.arrival.specs.Message.{mostParts}
 use Rattle.arrival.specs.Laws.{Admitted}
 use Rattle.slots.specs.declared.Slot.{Slot}
 use Rattle.slots.specs.declared.Record.{Record}
-use Rattle.series.specs.declared.take.Opening.{Opening}
 use Rattle.series.specs.declared.take.Step as declared
 use Rattle.series.specs.declared.take.Step.the-variants.{Refuses, Repeats, Keeps, Finishes}
 use Rattle.slots.specs.Below.{allBelow}
-use Rattle.slots.specs.Slots.{slotCount, slotAt, noKey, isFree, find, leastRecent, freshRecord}
+use Rattle.slots.specs.Slots.{slotCount, slotAt, noKey, freshRecord}
 use Rattle.series.specs.Cells.{cellOctets, cellsSize, joinedOctets}
 use Rattle.series.specs.Handing.{Place, Short}
 use Rattle.series.specs.Taking.{State, After, Answer, refused, packet, state, refuse, taken, unfit, Step, refuses, repeats, keeps, finishes, stepIn}
@@ -40,14 +39,6 @@ toldStep i x Finishes = finishes i
 -- of `stepIn`: it looks at the cells and at x, and at nothing else of the state
 abbrev pub stepAt : List ℕ → ℕ → ℕ → List ℕ → ℕ → Slot → Step
 stepAt cells total number octets = stepIn 0 (state (freshRecord 0 Command) cells []) noKey total number octets
-
--- of `stepNew`: the slot that a new series takes, and whether it displaces another
-abbrev pub openingIn : ℕ → List Slot → Option ℕ → Opening
-openingIn n xs (some i) = record { slot = i; displaced = false }
-openingIn n xs none = record { slot = leastRecent n xs; displaced = true }
-
-abbrev pub newPlace : ℕ → List Slot → Opening
-newPlace n xs = openingIn n xs (find isFree xs)
 
 -- ---- acting
 -- the answer to a packet of that length, and to none

@@ -17,6 +17,7 @@ use Rattle.arrival.specs.Arrivals.{Brought, single, part}
 use Rattle.arrival.specs.Message.{mostParts}
 use Rattle.arrival.specs.Keys.{ofPages, room, lengthFits}
 use Rattle.arrival.specs.Laws.{Admitted}
+use Rattle.joined.specs.Fronts.{packetIn}
 use Rattle.slots.specs.declared.Slot.{Slot}
 use Rattle.slots.specs.declared.Record.{Record}
 use Rattle.slots.specs.Slots.{slotAt, opened, atRank, withPart, heldAt, toFront, freed, withSlots}
@@ -24,7 +25,7 @@ use Rattle.slots.specs.Formed.{slotFormed, recordFormed}
 use Rattle.slots.specs.FormedLaws.{Formed, UsedSlot, formed-tells, slot-tells, slot-front, front-formed, free-formed}
 use Rattle.series.specs.PartLaws.{total-bounds, ready-held, ready-opened, part-more}
 use Rattle.series.specs.CaseLaws.{Bears, Lacks, Case, other-total, other-octets, again, last, more, opens, displaces, case-of}
-use Rattle.series.specs.Cells.{cellOctets, cellsSize, joinedOctets, packetIn}
+use Rattle.series.specs.Cells.{cellOctets, cellsSize, joinedOctets}
 use Rattle.series.specs.CellLaws.{cells-size}
 use Rattle.series.specs.Taking.{completes, State, After, Step, refuses, repeats, keeps, finishes, handOut, acted, step, takePart, taken, unfit}
 

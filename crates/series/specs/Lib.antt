@@ -6,4 +6,5 @@ pub mod CellLaws
 pub mod KeepLaws
 pub mod Calls
 pub mod Handing
+pub mod Order
 pub mod Deciding

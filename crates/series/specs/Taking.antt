@@ -13,13 +13,14 @@ use Rattle.arrival.specs.Arrivals.{Brought, single, part}
 use Rattle.arrival.specs.Message.{readMessage}
 use Rattle.arrival.specs.Page.{readPage}
 use Rattle.arrival.specs.Keys.{ofPages}
+use Rattle.joined.specs.Fronts.{packetIn}
 use Rattle.slots.specs.declared.Slot.{Slot}
 use Rattle.slots.specs.declared.Record.{Record}
 use Rattle.series.specs.declared.Answer as declared
 use Rattle.slots.specs.Below.{allBelow}
 use Rattle.slots.specs.Slots.{slotAt, used, bears, isFree, find, slotOr, leastRecent, opened, heldAt, withPart, toFront, freed, withSlots}
 use Rattle.slots.specs.Formed.{recordFormed, markAt}
-use Rattle.series.specs.Cells.{cellsSize, cellAt, cellPart, joinedOctets, packetIn}
+use Rattle.series.specs.Cells.{cellsSize, cellAt, cellPart, joinedOctets}
 
 -- ---- what a call works on, and what it comes to
 -- the record, the lent cells and the lent output

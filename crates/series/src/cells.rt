@@ -51,13 +51,6 @@ pub(crate) fn same_part(cells: &[u8], s: usize, k: usize, n: u8, part: &[u8]) ->
     octets::same(cell(cells, s, k, n as usize), part)
 }
 
-// An octet as a length.
-pub(crate) fn wide(x: u8) -> usize
-    ensures { λ r. ⌜ r ≡ x ⌝ }
-{
-    x as usize
-}
-
 // Part k of a series, where it lies: the part that arrives, where k is its number, and otherwise the one that the cells hold.
 pub(crate) fn piece<'a>(
     cells: &'a [u8],
@@ -76,5 +69,5 @@ pub(crate) fn piece<'a>(
         return part;
     }
     let i = k - 1;
-    cell(cells, s, k, wide(lengths[i]))
+    cell(cells, s, k, octets::wide(lengths[i]))
 }

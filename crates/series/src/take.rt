@@ -6,9 +6,9 @@ use crate::cells;
 use crate::cells::CELLS;
 use crate::order;
 use crate::packets;
-use crate::packets::Size;
 use arrival::Arrival;
 use arrival::Key;
+use joined::Size;
 use packet::Refusal;
 use slots::Record;
 use slots::Slot;
@@ -26,14 +26,15 @@ ghost use Rattle.packet.specs.Packets.{mostOctets};
 ghost use Rattle.arrival.specs.Arrivals.{toldArrival};
 ghost use Rattle.arrival.specs.Message.{mostParts};
 ghost use Rattle.arrival.specs.Laws.{Admitted};
+ghost use Rattle.joined.specs.Fronts.{packetIn, toldSize, lengthIn, outputWith};
 ghost use Rattle.slots.specs.Slots.{slotCount, slotAt, withPart, toFront, freed, withSlots};
 ghost use Rattle.slots.specs.Formed.{recordFormed};
-ghost use Rattle.series.specs.Cells.{cellsSize, cellAt, joinedOctets, packetIn};
-ghost use Rattle.series.specs.Handing.{Place, Short, toldSize, lengthIn, outputWith};
+ghost use Rattle.series.specs.Cells.{cellsSize, cellAt, joinedOctets};
+ghost use Rattle.series.specs.Handing.{Place, Short};
 ghost use Rattle.series.specs.Taking as rule;
 ghost use Rattle.series.specs.Taking.{toldAnswer, after};
 ghost use Rattle.series.specs.KeepLaws.{Sound};
-ghost use Rattle.series.specs.Deciding.{allWith, toldStep, stepAt, newPlace, answerOf, Room, Whole, Fitting, takenWhereFit};
+ghost use Rattle.series.specs.Deciding.{allWith, toldStep, stepAt, answerOf, Room, Whole, Fitting, takenWhereFit};
 
 // The most octets of a packet, and so the length of the output.
 const MOST_OCTETS: usize = 2142;
@@ -44,12 +45,6 @@ pub(crate) enum Step {
     Repeats,
     Keeps,
     Finishes,
-}
-
-// Where a new series goes, and whether it displaces another.
-pub(crate) struct Opening {
-    pub slot: usize,
-    pub displaced: bool,
 }
 
 // ---- deciding
@@ -92,22 +87,6 @@ fn decide(x: Slot, i: usize, total: u8, number: usize, cells: &[u8], part: &[u8]
         return Step::Finishes;
     }
     Step::Keeps
-}
-
-// Where a new series goes: the lowest free slot, or with none free that of the least recent series.
-fn new_place(state: Record) -> Opening
-    ensures { λ r. ⌜ (r ≡ newPlace slotCount (state .slots)) × (r .slot < slotCount) ⌝ }
-{
-    match find::find_free(state) {
-        Found::At(i) => Opening {
-            slot: i,
-            displaced: false,
-        },
-        Found::Nothing => Opening {
-            slot: find::least_recent(state),
-            displaced: true,
-        },
-    }
 }
 
 // ---- acting
@@ -184,7 +163,7 @@ fn finish<'a>(
     ensures { λ _. ⌜ now (out .exit) ≡ outputWith (packetIn (state .kind) paged (slotAt (state .slots) i .total) (joinedOctets (now (cells .entry)) (slotAt (state .slots) i) i number (now (part .entry)))) (now (out .entry)) ⌝ }
 {
     let x = order::slot_at(state, i);
-    let total = cells::wide(x.total);
+    let total = octets::wide(x.total);
     let kind = state.kind;
     let size = packets::hand_out(kind, paged, cells, &x.lengths, total, i, number, part, out);
     Taken {
@@ -237,7 +216,7 @@ fn take_part(
     match find::find_key(state, key) {
         Found::At(i) => return take_more(state, i, key, total, k, part, cells, out),
         Found::Nothing => {
-            let o = new_place(state);
+            let o = find::new_place(state);
             let x = find::opened(key, total);
             return keep(state, o.slot, o.displaced, x, k, part, cells);
         }

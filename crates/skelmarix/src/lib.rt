@@ -1,5 +1,5 @@
-// Skelmarix: secured packets over short messages and cell broadcast pages. What a user names: every public type and call of the crates below,
-// and nothing of its own.
+// Skelmarix: secured packets over short messages and cell broadcast pages. What a user names of the crates below, and nothing of its own; the
+// calls that only these crates make of one another stay with them.
 
 // Octets: numbers as pairs, a total put, the comparison.
 pub use octets::Pair;

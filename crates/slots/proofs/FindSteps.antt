@@ -12,8 +12,8 @@ use borrow.Author.Count.{below-more}
 use Rattle.arrival.specs.declared.Key.{Key}
 use Rattle.packet.specs.declared.Kind.{Kind}
 use Rattle.slots.specs.declared.Slot.{Slot}
-use Rattle.slots.specs.Slots.{slotAt, sameKey, bears, find, isLeastRecent, leastRecent, freeSlot, freshRecord}
-use Rattle.slots.specs.Found.{toldFound, found-inside, length-of-map}
+use Rattle.slots.specs.Slots.{slotAt, sameKey, bears, isFree, find, isLeastRecent, leastRecent, freeSlot, freshRecord}
+use Rattle.slots.specs.Found.{toldFound, newPlace, found-inside, length-of-map}
 use Rattle.slots.specs.declared.find.Found.{Found}
 use Rattle.slots.specs.declared.find.Found.the-variants.{At, Nothing}
 use Rattle.slots.proofs.FindLaws.{Passed, find-at, find-none}
@@ -42,6 +42,14 @@ module _ (n : ℕ) (xs : List Slot) (f : Found) (told : toldFound f ≡ find (is
   pub least-none : f ≡ Nothing → 0 ≡ leastRecent n xs
   least-none e = rw (← told, e)
 
+-- where a new series goes
+module _ (n : ℕ) (xs : List Slot) (f : Found) (told : toldFound f ≡ find isFree xs) where
+  pub place-free : (i : ℕ) → f ≡ At i → record { slot = i; displaced = false } ≡ newPlace n xs
+  place-free i e = rw (← told, e)
+
+  pub place-least : (m : ℕ) → f ≡ Nothing → m ≡ leastRecent n xs → record { slot = m; displaced = true } ≡ newPlace n xs
+  place-least m e l = rw (← told, e, l)
+
 -- ---- flags and literals
 pub bears-told : (key : Key) (x : Slot) (b : Bool) → b ≡ sameKey (x .key) key → not (eqb (x .rank) 0) && b ≡ bears key x
 bears-told key x b e = rw e
@@ -58,6 +66,8 @@ pub ruleset findSteps = (
   search-ends,
   least-found,
   least-none,
+  place-free,
+  place-least,
   found-inside,
   bears-told,
   fresh-told,

@@ -1,11 +1,15 @@
--- What a search of the slots answers, in the words of the rules, and what owning the slots tells.
+-- What a search of the slots answers, in the words of the rules, where a new series goes, and what owning the slots tells.
 use Prim.Native.Nat.{ℕ, _<_}
 use mathlib.Core.Path.{_≡_, sym, _∙_}
 use mathlib.Core.List.{List, map}
+use mathlib.Core.Bool.{true, false}
 use mathlib.Core.Option.{Option, none, some}
 use lib.ListN.{length, length-map}
+use Rattle.slots.specs.declared.Slot.{Slot}
 use Rattle.slots.specs.declared.find.Found.{Found}
+use Rattle.slots.specs.declared.find.Opening.{Opening}
 use Rattle.slots.specs.declared.find.Found.the-variants.{At, Nothing}
+use Rattle.slots.specs.Slots.{isFree, find, leastRecent}
 
 abbrev pub toldFound : Found → Option ℕ
 toldFound (At i) = some i
@@ -15,6 +19,14 @@ toldFound Nothing = none
 abbrev pub Inside : ℕ → Found → Type 0
 Inside n (At i) = i < n
 Inside n Nothing = Unit
+
+-- "A new key takes the lowest free slot; with none free it displaces the least recent series.": the slot that a new series takes, and whether it displaces another
+abbrev pub openingIn : ℕ → List Slot → Option ℕ → Opening
+openingIn n xs (some i) = record { slot = i; displaced = false }
+openingIn n xs none = record { slot = leastRecent n xs; displaced = true }
+
+abbrev pub newPlace : ℕ → List Slot → Opening
+newPlace n xs = openingIn n xs (find isFree xs)
 
 pub found-inside : (n : ℕ) (f : Found) (i : ℕ) → Inside n f → f ≡ At i → i < n
 found-inside n f i h e = rw e at h

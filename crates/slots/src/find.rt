@@ -11,12 +11,18 @@ use packet::Kind;
 ghost use mathlib.Core.Path.{_≡_};
 ghost use Prim.Native.Nat.{_<_};
 ghost use Rattle.slots.specs.Slots.{slotCount, opened, freeSlot, sameKey, bears, isFree, find, isLeastRecent, leastRecent, freshRecord};
-ghost use Rattle.slots.specs.Found.{toldFound, Inside};
+ghost use Rattle.slots.specs.Found.{toldFound, Inside, newPlace};
 
 // Which slot a search found.
 pub enum Found {
     At(usize),
     Nothing,
+}
+
+// Where a new series goes, and whether it displaces another.
+pub struct Opening {
+    pub slot: usize,
+    pub displaced: bool,
 }
 
 // A slot for a series of which no part has come yet.
@@ -111,7 +117,7 @@ fn find_rank(state: Record, r: u8) -> Found
 }
 
 // The lowest free slot.
-pub fn find_free(state: Record) -> Found
+fn find_free(state: Record) -> Found
     ensures { λ r. ⌜ toldFound r ≡ find isFree (state .slots) ⌝ }
     ensures { λ r. ⌜ Inside slotCount r ⌝ }
 {
@@ -119,11 +125,27 @@ pub fn find_free(state: Record) -> Found
 }
 
 // The slot of the least recent series, where all are used.
-pub fn least_recent(state: Record) -> usize
+fn least_recent(state: Record) -> usize
     ensures { λ r. ⌜ (r ≡ leastRecent slotCount (state .slots)) × (r < slotCount) ⌝ }
 {
     match find_rank(state, SLOTS as u8) {
         Found::At(i) => i,
         Found::Nothing => 0,
+    }
+}
+
+// Where a new series goes: the lowest free slot, or with none free that of the least recent series.
+pub fn new_place(state: Record) -> Opening
+    ensures { λ r. ⌜ (r ≡ newPlace slotCount (state .slots)) × (r .slot < slotCount) ⌝ }
+{
+    match find_free(state) {
+        Found::At(i) => Opening {
+            slot: i,
+            displaced: false,
+        },
+        Found::Nothing => Opening {
+            slot: least_recent(state),
+            displaced: true,
+        },
     }
 }

@@ -22,7 +22,7 @@ fn own(user: &[u8]) -> &[u8] {
     if user.len() == 0 {
         return user;
     }
-    vectors::behind(&user[1..], vectors::wide(user[0]))
+    vectors::behind(&user[1..], octets::wide(user[0]))
 }
 
 // Puts the own octets of part `number`; a number above the total puts nothing.

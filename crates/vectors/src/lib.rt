@@ -12,11 +12,6 @@ ghost use Prim.Native.Nat.{_≤_};
 pub const FILLER: u8 = 0xA5;
 
 // ---- octets
-// An octet as a length.
-pub fn wide(x: u8) -> usize {
-    x as usize
-}
-
 // Octets that count up from `from`, and from 0 again after 9F: a part of them tells where it was taken from.
 pub fn counted(out: &mut [u8], from: usize) {
     let mut i = 0;
@@ -204,12 +199,16 @@ pub fn label_at(line: &[u8], n: usize) {
 
 // The number of a refusal.
 pub fn refused(refusal: Refusal) {
-    report::number(b"refused", wide(refusal.number()));
+    report::number(b"refused", octets::wide(refusal.number()));
 }
 
 // The number of a refusal, and how many octets of the lent buffer are left as they were: all of them, where it wrote none.
 pub fn refused_leaving(refusal: Refusal, buffer: &[u8]) {
-    report::numbers(b"refused and left", wide(refusal.number()), left(buffer));
+    report::numbers(
+        b"refused and left",
+        octets::wide(refusal.number()),
+        left(buffer),
+    );
 }
 
 // What is written of a line that no vector of the program has the form of.

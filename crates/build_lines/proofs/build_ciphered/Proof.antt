@@ -30,11 +30,11 @@ narrow-requires c κs = search saidSteps
 enum-told : tie.Need-enum-told
 enum-told c = search saidSteps
 
-slice-aggregate-first-of : tie.Need-slice-aggregate-first-of
-slice-aggregate-first-of c = search saidSteps
+slice-aggregate-up-to : tie.Need-slice-aggregate-up-to
+slice-aggregate-up-to c = search saidSteps
 
-first-of-requires : tie.Need-first-of-requires
-first-of-requires c κs = search saidSteps
+up-to-requires : tie.Need-up-to-requires
+up-to-requires c κs = search saidSteps
 
 ciphered-command-requires : tie.Need-ciphered-command-requires
 ciphered-command-requires c κs = search saidSteps
@@ -45,11 +45,11 @@ understood-requires c κs = search saidSteps
 enum-told-2 : tie.Need-enum-told-2
 enum-told-2 c = search saidSteps
 
-slice-aggregate-first-of-2 : tie.Need-slice-aggregate-first-of-2
-slice-aggregate-first-of-2 c = search saidSteps
+slice-aggregate-up-to-2 : tie.Need-slice-aggregate-up-to-2
+slice-aggregate-up-to-2 c = search saidSteps
 
-first-of-requires-2 : tie.Need-first-of-requires-2
-first-of-requires-2 c κs = search saidSteps
+up-to-requires-2 : tie.Need-up-to-requires-2
+up-to-requires-2 c κs = search saidSteps
 
 ciphered-response-requires : tie.Need-ciphered-response-requires
 ciphered-response-requires c κs = search saidSteps
@@ -82,13 +82,13 @@ build-ciphered-spec =
     returns
     narrow-requires
     enum-told
-    slice-aggregate-first-of
-    first-of-requires
+    slice-aggregate-up-to
+    up-to-requires
     ciphered-command-requires
     understood-requires
     enum-told-2
-    slice-aggregate-first-of-2
-    first-of-requires-2
+    slice-aggregate-up-to-2
+    up-to-requires-2
     ciphered-response-requires
     understood-requires-2
     same-length

@@ -24,11 +24,11 @@ returns c = search saidSteps
 enum-told : tie.Need-enum-told
 enum-told c = search saidSteps
 
-slice-aggregate-first-of : tie.Need-slice-aggregate-first-of
-slice-aggregate-first-of c = search saidSteps
+slice-aggregate-up-to : tie.Need-slice-aggregate-up-to
+slice-aggregate-up-to c = search saidSteps
 
-first-of-requires : tie.Need-first-of-requires
-first-of-requires c κs = search saidSteps
+up-to-requires : tie.Need-up-to-requires
+up-to-requires c κs = search saidSteps
 
 plain-command-requires : tie.Need-plain-command-requires
 plain-command-requires c κs = search saidSteps
@@ -39,11 +39,11 @@ understood-requires c κs = search saidSteps
 enum-told-2 : tie.Need-enum-told-2
 enum-told-2 c = search saidSteps
 
-slice-aggregate-first-of-2 : tie.Need-slice-aggregate-first-of-2
-slice-aggregate-first-of-2 c = search saidSteps
+slice-aggregate-up-to-2 : tie.Need-slice-aggregate-up-to-2
+slice-aggregate-up-to-2 c = search saidSteps
 
-first-of-requires-2 : tie.Need-first-of-requires-2
-first-of-requires-2 c κs = search saidSteps
+up-to-requires-2 : tie.Need-up-to-requires-2
+up-to-requires-2 c κs = search saidSteps
 
 plain-response-requires : tie.Need-plain-response-requires
 plain-response-requires c κs = search saidSteps
@@ -74,13 +74,13 @@ build-plain-spec =
     not-understood-requires
     returns
     enum-told
-    slice-aggregate-first-of
-    first-of-requires
+    slice-aggregate-up-to
+    up-to-requires
     plain-command-requires
     understood-requires
     enum-told-2
-    slice-aggregate-first-of-2
-    first-of-requires-2
+    slice-aggregate-up-to-2
+    up-to-requires-2
     plain-response-requires
     understood-requires-2
     same-length

@@ -15,11 +15,11 @@ not-understood-requires c κs = search saidSteps
 returns : tie.Need-returns
 returns c = search saidSteps
 
-slice-aggregate-first-of : tie.Need-slice-aggregate-first-of
-slice-aggregate-first-of c = search saidSteps
+slice-aggregate-up-to : tie.Need-slice-aggregate-up-to
+slice-aggregate-up-to c = search saidSteps
 
-first-of-requires : tie.Need-first-of-requires
-first-of-requires c κs = search saidSteps
+up-to-requires : tie.Need-up-to-requires
+up-to-requires c κs = search saidSteps
 
 slice-aggregate-command-checksum : tie.Need-slice-aggregate-command-checksum
 slice-aggregate-command-checksum c = search saidSteps
@@ -53,8 +53,8 @@ command-checksum-line-spec =
     last-octets-requires
     not-understood-requires
     returns
-    slice-aggregate-first-of
-    first-of-requires
+    slice-aggregate-up-to
+    up-to-requires
     slice-aggregate-command-checksum
     command-checksum-requires
     slice-aggregate-say-written

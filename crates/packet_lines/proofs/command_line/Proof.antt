@@ -15,11 +15,11 @@ not-understood-requires c κs = search saidSteps
 returns : tie.Need-returns
 returns c = search saidSteps
 
-slice-aggregate-first-of : tie.Need-slice-aggregate-first-of
-slice-aggregate-first-of c = search saidSteps
+slice-aggregate-up-to : tie.Need-slice-aggregate-up-to
+slice-aggregate-up-to c = search saidSteps
 
-first-of-requires : tie.Need-first-of-requires
-first-of-requires c κs = search saidSteps
+up-to-requires : tie.Need-up-to-requires
+up-to-requires c κs = search saidSteps
 
 parse-command-requires : tie.Need-parse-command-requires
 parse-command-requires c κs = search saidSteps
@@ -41,8 +41,8 @@ command-line-spec =
     last-octets-requires
     not-understood-requires
     returns
-    slice-aggregate-first-of
-    first-of-requires
+    slice-aggregate-up-to
+    up-to-requires
     parse-command-requires
     understood-requires
     same-length

@@ -18,11 +18,11 @@ not-understood-requires c κs = search saidSteps
 returns : tie.Need-returns
 returns c = search saidSteps
 
-slice-aggregate-first-of : tie.Need-slice-aggregate-first-of
-slice-aggregate-first-of c = search saidSteps
+slice-aggregate-up-to : tie.Need-slice-aggregate-up-to
+slice-aggregate-up-to c = search saidSteps
 
-first-of-requires : tie.Need-first-of-requires
-first-of-requires c κs = search saidSteps
+up-to-requires : tie.Need-up-to-requires
+up-to-requires c κs = search saidSteps
 
 parse-response-requires : tie.Need-parse-response-requires
 parse-response-requires c κs = search saidSteps
@@ -45,8 +45,8 @@ response-line-spec =
     last-octets-requires
     not-understood-requires
     returns
-    slice-aggregate-first-of
-    first-of-requires
+    slice-aggregate-up-to
+    up-to-requires
     parse-response-requires
     understood-requires
     same-length

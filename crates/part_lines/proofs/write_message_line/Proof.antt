@@ -24,11 +24,11 @@ not-understood-requires c κs = search saidSteps
 returns : tie.Need-returns
 returns c = search saidSteps
 
-slice-aggregate-first-of : tie.Need-slice-aggregate-first-of
-slice-aggregate-first-of c = search saidSteps
+slice-aggregate-up-to : tie.Need-slice-aggregate-up-to
+slice-aggregate-up-to c = search saidSteps
 
-first-of-requires : tie.Need-first-of-requires
-first-of-requires c κs = search saidSteps
+up-to-requires : tie.Need-up-to-requires
+up-to-requires c κs = search saidSteps
 
 slice-aggregate-write-message : tie.Need-slice-aggregate-write-message
 slice-aggregate-write-message c = search saidSteps
@@ -62,8 +62,8 @@ write-message-line-spec =
     last-octets-requires
     not-understood-requires
     returns
-    slice-aggregate-first-of
-    first-of-requires
+    slice-aggregate-up-to
+    up-to-requires
     slice-aggregate-write-message
     write-message-requires
     slice-aggregate-say-part

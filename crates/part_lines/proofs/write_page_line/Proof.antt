@@ -48,11 +48,11 @@ number-of-requires-2 c κs = search saidSteps
 array-read-write-page : tie.Need-array-read-write-page
 array-read-write-page c = search saidSteps
 
-slice-aggregate-first-of : tie.Need-slice-aggregate-first-of
-slice-aggregate-first-of c = search saidSteps
+slice-aggregate-up-to : tie.Need-slice-aggregate-up-to
+slice-aggregate-up-to c = search saidSteps
 
-first-of-requires : tie.Need-first-of-requires
-first-of-requires c κs = search saidSteps
+up-to-requires : tie.Need-up-to-requires
+up-to-requires c κs = search saidSteps
 
 slice-aggregate-write-page : tie.Need-slice-aggregate-write-page
 slice-aggregate-write-page c = search saidSteps
@@ -94,8 +94,8 @@ write-page-line-spec =
     array-read-number-of-4
     number-of-requires-2
     array-read-write-page
-    slice-aggregate-first-of
-    first-of-requires
+    slice-aggregate-up-to
+    up-to-requires
     slice-aggregate-write-page
     write-page-requires
     slice-aggregate-say-part

@@ -27,11 +27,11 @@ returns c = search answeredSteps
 sender-of-requires : tie.Need-sender-of-requires
 sender-of-requires c κs = search answeredSteps
 
-slice-aggregate-first-of : tie.Need-slice-aggregate-first-of
-slice-aggregate-first-of c = search answeredSteps
+slice-aggregate-up-to : tie.Need-slice-aggregate-up-to
+slice-aggregate-up-to c = search answeredSteps
 
-first-of-requires : tie.Need-first-of-requires
-first-of-requires c κs = search answeredSteps
+up-to-requires : tie.Need-up-to-requires
+up-to-requires c κs = search answeredSteps
 
 slice-aggregate-take-message : tie.Need-slice-aggregate-take-message
 slice-aggregate-take-message c = search answeredSteps
@@ -66,8 +66,8 @@ message-line-spec =
     unanswered-requires
     returns
     sender-of-requires
-    slice-aggregate-first-of
-    first-of-requires
+    slice-aggregate-up-to
+    up-to-requires
     slice-aggregate-take-message
     take-message-requires
     slice-aggregate-say-answer

@@ -15,11 +15,11 @@ unanswered-requires c κs = search answeredSteps
 returns : tie.Need-returns
 returns c = search answeredSteps
 
-slice-aggregate-first-of : tie.Need-slice-aggregate-first-of
-slice-aggregate-first-of c = search answeredSteps
+slice-aggregate-up-to : tie.Need-slice-aggregate-up-to
+slice-aggregate-up-to c = search answeredSteps
 
-first-of-requires : tie.Need-first-of-requires
-first-of-requires c κs = search answeredSteps
+up-to-requires : tie.Need-up-to-requires
+up-to-requires c κs = search answeredSteps
 
 slice-aggregate-take-page : tie.Need-slice-aggregate-take-page
 slice-aggregate-take-page c = search answeredSteps
@@ -50,8 +50,8 @@ page-line-spec =
     last-octets-requires
     unanswered-requires
     returns
-    slice-aggregate-first-of
-    first-of-requires
+    slice-aggregate-up-to
+    up-to-requires
     slice-aggregate-take-page
     take-page-requires
     slice-aggregate-say-answer

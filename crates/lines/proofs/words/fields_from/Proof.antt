@@ -21,14 +21,17 @@ shared-slice-read-wide c = search steps
 wide-requires : tie.Need-wide-requires Inv-loop μ-loop
 wide-requires c κs = search steps
 
-add-end : tie.Need-add-end Inv-loop μ-loop
-add-end c = search steps
+sub-if1 : tie.Need-sub-if1 Inv-loop μ-loop
+sub-if1 c = search steps
 
 same-length : tie.Need-same-length Inv-loop μ-loop
 same-length c = search steps
 
 returns : tie.Need-returns Inv-loop μ-loop
 returns c = search steps
+
+add-end : tie.Need-add-end Inv-loop μ-loop
+add-end c = search steps
 
 sub-fixed-from : tie.Need-sub-fixed-from Inv-loop μ-loop
 sub-fixed-from c = search steps
@@ -72,9 +75,10 @@ fields-from-spec =
     loop-holds
     shared-slice-read-wide
     wide-requires
-    add-end
+    sub-if1
     same-length
     returns
+    add-end
     sub-fixed-from
     part-fixed-from-start
     part-fixed-from-end

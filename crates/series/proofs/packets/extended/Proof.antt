@@ -9,14 +9,14 @@ add-count c = search cellSteps
 returns : tie.Need-returns
 returns c = search cellSteps
 
-octet-requires : tie.Need-octet-requires
-octet-requires c κs = search cellSteps
+octet-after-requires : tie.Need-octet-after-requires
+octet-after-requires c κs = search cellSteps
 
-octet-requires-2 : tie.Need-octet-requires-2
-octet-requires-2 c κs = search cellSteps
+octet-after-requires-2 : tie.Need-octet-after-requires-2
+octet-after-requires-2 c κs = search cellSteps
 
-octet-requires-3 : tie.Need-octet-requires-3
-octet-requires-3 c κs = search cellSteps
+octet-after-requires-3 : tie.Need-octet-after-requires-3
+octet-after-requires-3 c κs = search cellSteps
 
 returns-2 : tie.Need-returns-2
 returns-2 c = search cellSteps
@@ -24,4 +24,4 @@ returns-2 c = search cellSteps
 pub extended-spec : {M : Type 1} → statement M
 extended-spec =
     tie.close
-    (tie.spec add-count returns octet-requires octet-requires-2 octet-requires-3 returns-2)
+    (tie.spec add-count returns octet-after-requires octet-after-requires-2 octet-after-requires-3 returns-2)

@@ -7,6 +7,9 @@ use Rattle.series.proofs.packets.hand_out.Tie as tie
 joined-front-requires : tie.Need-joined-front-requires
 joined-front-requires c κs = search cellSteps
 
+cast-packet-size : tie.Need-cast-packet-size
+cast-packet-size c = search cellSteps
+
 packet-size-requires : tie.Need-packet-size-requires
 packet-size-requires c κs = search cellSteps
 
@@ -33,6 +36,7 @@ hand-out-spec =
     tie.close
     (tie.spec
     joined-front-requires
+    cast-packet-size
     packet-size-requires
     enum-known-size
     join-requires

@@ -3,8 +3,9 @@
 use Prim.Native.Nat.{_≤_, _-_}
 use mathlib.Core.Path.{_≡_}
 use native.Mathlib.Omega.{arith}
+use Rattle.joined.specs.Fronts.{frontOf}
 use Rattle.series.specs.Cells.{joined}
-use Rattle.series.specs.Handing.{pieceOf, frontOf}
+use Rattle.series.specs.Handing.{pieceOf}
 use Rattle.series.proofs.CellSteps.{cellSteps}
 use Rattle.series.proofs.packets.joined_front.Statement.{statement}
 use Rattle.series.proofs.packets.joined_front.Tie as tie

@@ -12,11 +12,10 @@ use borrow.Author.Tests.{eqb-true, eqb-false, ltb-true, ltb-false, leb-true, leb
 use Rattle.octets.specs.Octets.{numberOf}
 use Rattle.packet.specs.declared.Kind.{Kind}
 use Rattle.packet.specs.Packets.{cpl, formedBy, wellFormed}
-use Rattle.series.specs.declared.packets.Front.{Front}
-use Rattle.series.specs.declared.packets.Size.{Size}
-use Rattle.series.specs.declared.packets.Size.the-variants as size
-use Rattle.series.specs.Cells.{pagesAllow, packetOctets, packetIn}
-use Rattle.series.specs.Handing.{frontOf, octetAfter, frontAfter, sizeIn, holdsPacket, sizeBy, toldSize, lengthIn, outputWith}
+use Rattle.joined.specs.declared.Front.{Front}
+use Rattle.joined.specs.declared.Size.{Size}
+use Rattle.joined.specs.declared.Size.the-variants as size
+use Rattle.joined.specs.Fronts.{pagesAllow, packetOctets, packetIn, frontOf, octetAfter, frontAfter, sizeIn, holdsPacket, sizeBy, toldSize, lengthIn, outputWith}
 
 -- ---- more octets
 -- an octet lies in the first run or in the second

@@ -1,25 +1,25 @@
 -- `new_place` meets its contract: the two searches are those of the rule, and each finds one of the slots. Assumes nothing.
-use Rattle.series.proofs.TakeSteps.{decideSteps}
-use Rattle.series.proofs.take.new_place.Statement.{statement}
-use Rattle.series.proofs.take.new_place.Tie as tie
+use Rattle.slots.proofs.FindSteps.{findSteps}
+use Rattle.slots.proofs.find.new_place.Statement.{statement}
+use Rattle.slots.proofs.find.new_place.Tie as tie
 
 find-free-requires : tie.Need-find-free-requires
-find-free-requires c κs = search decideSteps
+find-free-requires c κs = search findSteps
 
 enum-known-i : tie.Need-enum-known-i
-enum-known-i c = search decideSteps
+enum-known-i c = search findSteps
 
 enum-told : tie.Need-enum-told
-enum-told c = search decideSteps
+enum-told c = search findSteps
 
 least-recent-requires : tie.Need-least-recent-requires
-least-recent-requires c κs = search decideSteps
+least-recent-requires c κs = search findSteps
 
 returns : tie.Need-returns
-returns c = search decideSteps
+returns c = search findSteps
 
 returns-2 : tie.Need-returns-2
-returns-2 c = search decideSteps
+returns-2 c = search findSteps
 
 pub new-place-spec : {M : Type 1} → statement M
 new-place-spec =
