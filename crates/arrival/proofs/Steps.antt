@@ -1,41 +1,45 @@
 -- What the proofs of `arrival` cite: one law for each return and call, over plain variables.
-use Prim.Native.Nat.{ℕ, suc, _+_, _-_, _/_, _%_, _^_, _≤_, _<_}
+use Prim.Native.Nat.{ℕ, _+_, _-_, _/_, _%_, _≤_, _<_}
 use mathlib.Core.Path.{_≡_, refl, sym, ap, _∙_}
-use mathlib.Core.List.{List, [], _∷_}
+use mathlib.Core.List.{List, []}
 use mathlib.Core.Bool.{Bool, true, false, not, _||_, Bool·beq}
 use mathlib.Core.Option.{Option, none, some}
 use native.Mathlib.Omega.{arith}
-use native.Mathlib.Nat.{add-sub-cancel, add-sub-cancel-left}
-use native.Mathlib.Numerals.{add-one, add-two}
+use native.Mathlib.Nat.{add-sub-cancel}
 use lib.ListN.{length, getD, take, drop, length-drop, drop-of-length-le}
-use lib.Seq.{drop-cons, take-all}
+use lib.Seq.{take-all}
 use lib.Dec.{eqb, leb·zero}
 use mir.Syntax.{w8, w16, w64}
 use mir.Val.{Fits}
 use borrow.Author.Needs.{needs}
 use borrow.Author.Tests.{le-leb, lt-leb, lt-ltb, le-ltb, eq-eqb, ne-eqb}
 use Rattle.packet.specs.declared.Kind.{Kind}
-use Rattle.octets.specs.Octets.{numberOf}
 use Rattle.packet.specs.Refusals.{refused, gives}
 use Rattle.packet.specs.Packets.{differ}
-use Rattle.arrival.specs.declared.Concatenation.{Concatenation}
-use Rattle.arrival.specs.declared.Seen.{Seen}
-use Rattle.arrival.specs.declared.Cursor.{Cursor}
-use Rattle.arrival.specs.declared.Element.{Element}
-use Rattle.arrival.specs.declared.Element.the-variants as element
-use Rattle.arrival.specs.declared.Walked.{Walked}
-use Rattle.arrival.specs.declared.Walked.the-variants as whole
+use Rattle.header.specs.declared.Concatenation.{Concatenation}
+use Rattle.header.specs.declared.Seen.{Seen}
+use Rattle.header.specs.declared.Element.the-variants as element
+use Rattle.header.specs.declared.Walked.{Walked}
+use Rattle.header.specs.declared.Walked.the-variants as whole
 use Rattle.arrival.specs.declared.Arrival.{Arrival}
 use Rattle.arrival.specs.declared.Key.{Key}
 use Rattle.arrival.specs.declared.SerialNumber.{SerialNumber}
 use Rattle.arrival.specs.declared.MessageIdentifier.{MessageIdentifier}
 use Rattle.arrival.specs.Arrivals.{single, part, toldArrival}
-use Rattle.arrival.specs.Header.{Item, item, _∷?_, elements, summary}
+use Rattle.header.specs.Header.{Item, elements, wrongLength, anyOf, summary}
 use Rattle.arrival.specs.Message.{alone, opens, own, foreign, misplaced, messageKey, judged, whereRead, readMessage, headerOctets, afterHeader}
-use Rattle.arrival.specs.Page.{serialIn, identifierIn, parameterIn, oneOfOne, pageTotal, pageNumber, pageKey, noPages, identifierInRange, readPage}
-use Rattle.arrival.specs.Reading.{misdirected, firstElement, narrowIn, wideIn, nothingSeen, wrongSeen, concatenationSeen, commandSeen, responseSeen, added, seenAfter, collected, walked}
-use Rattle.arrival.specs.Laws.{elements-none}
-use Rattle.arrival.proofs.Reading.{elements-at, Stands, read-place, judged-all}
+use Rattle.arrival.specs.Page.{serialIn, identifierIn, parameterIn, oneOfOne, pageTotal, pageNumber, pageKey, noPages, identifierInRange, misdirected, readPage}
+use Rattle.header.specs.Reading.{nothingSeen, seenAfter, collected, walked}
+use Rattle.header.specs.Laws.{after-wrong, seen-summary}
+
+-- what was seen is judged as the summary is
+judged-all : (k : Kind) (sender start : ℕ) (es : List Item) → judged k sender start (seenAfter nothingSeen es) ≡ judged k sender start (summary es)
+unfolding judged summary
+judged-all k sender start es = go (anyOf wrongLength es) refl
+  where
+    go : (b : Bool) → anyOf wrongLength es ≡ b → judged k sender start (seenAfter nothingSeen es) ≡ judged k sender start (summary es)
+    go true w = rw (after-wrong nothingSeen es w, w)
+    go false w = ap (judged k sender start) (seen-summary es w)
 
 -- an octet fits every wider number
 pub octet-fits-16 : (l : List ℕ) (i : ℕ) → ((k : ℕ) → Fits w8 (getD l k 0)) → Fits w16 (getD l i 0)
@@ -43,100 +47,6 @@ octet-fits-16 l i f = omega (arith, f i)
 
 pub octet-fits-64 : (l : List ℕ) (i : ℕ) → ((k : ℕ) → Fits w8 (getD l k 0)) → Fits w64 (getD l i 0)
 octet-fits-64 l i f = omega (arith, f i)
-
--- ---- the element at a place, by the tests that `element` makes
-module _ (h : List ℕ) (i : ℕ) where
-  pub past-end : length h ≤ i → element.Past ≡ firstElement i (drop i h)
-  unfolding firstElement
-  past-end l = rw (drop-of-length-le h l)
-
-  pub past-lone : i < length h → length h ≤ i + 1 → element.Past ≡ firstElement i (drop i h)
-  unfolding firstElement
-  past-lone l m = let m′ : length h ≤ suc i = omega arith in rw (drop-cons h i 0 l, drop-of-length-le h m′)
-
-  drop-two : i + 1 < length h → drop i h ≡ getD h i 0 ∷ getD h (i + 1) 0 ∷ drop (i + 2) h
-  drop-two l = rw (add-one, add-two, drop-cons h i 0 (omega arith), drop-cons h (suc i) 0 (omega arith))
-
-  pub read-whole : i + 1 < length h → getD h (i + 1) 0 ≤ length h - (i + 2)
-      → element.Read (getD h i 0) (i + 2) (getD h (i + 1) 0) (record { at = i + 2 + getD h (i + 1) 0 }) ≡ firstElement i (drop i h)
-  unfolding firstElement
-  read-whole l m = rw (drop-two l, length-drop, le-leb _ _ m)
-
-  pub past-long : i + 1 < length h → length h - (i + 2) < getD h (i + 1) 0 → element.Past ≡ firstElement i (drop i h)
-  unfolding firstElement
-  past-long l m = rw (drop-two l, length-drop, lt-leb _ _ m)
-
--- ---- an element more, by its identifier and its length
-module _ (s r : Seen) (a : ℕ) (o : List ℕ) where
-  pub plus-narrow : a ≡ 0x00 → length o ≡ 3 → (c : Concatenation) → c ≡ narrowIn o → r ≡ concatenationSeen s c → r ≡ added s (item a o)
-  unfolding added
-  plus-narrow e l c f g = rw (e, l) (g ∙ ap (concatenationSeen s) f)
-
-  pub plus-wide : a ≡ 0x08 → length o ≡ 4 → (c : Concatenation) → c ≡ wideIn o → r ≡ concatenationSeen s c → r ≡ added s (item a o)
-  unfolding added
-  plus-wide e l c f g = rw (e, l) (g ∙ ap (concatenationSeen s) f)
-
-  pub plus-command : a ≡ 0x70 → length o ≡ 0 → r ≡ commandSeen s → r ≡ added s (item a o)
-  unfolding added
-  plus-command e l g = rw (e, l) g
-
-  pub plus-response : a ≡ 0x71 → length o ≡ 0 → r ≡ responseSeen s → r ≡ added s (item a o)
-  unfolding added
-  plus-response e l g = rw (e, l) g
-
-  pub wrong-narrow : a ≡ 0x00 → (length o ≡ 3 → ⊥) → r ≡ wrongSeen s → r ≡ added s (item a o)
-  unfolding added
-  wrong-narrow e l g = rw (e, ne-eqb _ _ l) g
-
-  pub wrong-wide : a ≡ 0x08 → (length o ≡ 4 → ⊥) → r ≡ wrongSeen s → r ≡ added s (item a o)
-  unfolding added
-  wrong-wide e l g = rw (e, ne-eqb _ _ l) g
-
-  pub wrong-command : a ≡ 0x70 → (length o ≡ 0 → ⊥) → r ≡ wrongSeen s → r ≡ added s (item a o)
-  unfolding added
-  wrong-command e l g = rw (e, ne-eqb _ _ l) g
-
-  pub wrong-response : a ≡ 0x71 → (length o ≡ 0 → ⊥) → r ≡ wrongSeen s → r ≡ added s (item a o)
-  unfolding added
-  wrong-response e l g = rw (e, ne-eqb _ _ l) g
-
-pub plus-other : (s : Seen) (a : ℕ) (o : List ℕ) → (a ≡ 0x00 → ⊥) → (a ≡ 0x08 → ⊥) → (a ≡ 0x70 → ⊥) → (a ≡ 0x71 → ⊥) → s ≡ added s (item a o)
-unfolding added
-plus-other s a o p q r t = rw (ne-eqb _ _ p, ne-eqb _ _ q, ne-eqb _ _ r, ne-eqb _ _ t)
-
--- ---- one step of the walk, at the place i below the end: r stands there
-pub walked-end : (h : List ℕ) (i : ℕ) (s : Seen) → length h ≤ i → whole.Header s ≡ walked h i s
-walked-end h i s l = rw (drop-of-length-le h l, elements-none)
-
-collected-more : (s : Seen) (e : Item) (o : Option (List Item)) → collected (added s e) o ≡ collected s (e ∷? o)
-collected-more s e none = refl
-collected-more s e (some es) = refl
-
-module _ (h : List ℕ) (i : ℕ) (r : Element) (l : i < length h) (rule : r ≡ firstElement i (drop i h)) where
-  pub walked-past : (s : Seen) → r ≡ element.Past → whole.Past ≡ walked h i s
-  walked-past s e = rw (elements-at h i l, ← rule, e)
-
-  module _ (a b n : ℕ) (next : Cursor) (found : r ≡ element.Read a b n next) where
-    pub walked-read : (s s′ : Seen) (o : Walked) → s′ ≡ added s (item a (take (b + n - b) (drop b h))) → o ≡ walked h (next .at) s′ → o ≡ walked h i s
-    walked-read s s′ o e w =
-        rw (elements-at h i l, ← rule, found)
-        (w ∙ rw (e, add-sub-cancel-left) (collected-more s (item a (take n (drop b h))) (elements (drop (next .at) h))))
-
-    place : Stands i b n (next .at) (length h - i)
-    place = rw length-drop at (read-place i (drop i h) (sym rule ∙ found))
-
-    pub own-end : b + n ≤ length h
-    own-end = omega (arith, place)
-
-    pub own-fits : length h < 2 ^ 64 → Fits w64 (b + n)
-    own-fits m = omega (arith, place)
-
-    pub step-falls : (t : ℕ) → length h - i ≡ t → length h - next .at < t
-    step-falls t e = omega (arith, place)
-
-pub wide-told : (n : ℕ) (o : List ℕ) → n ≡ numberOf (getD o 0 0) (getD o 1 0)
-    → _≡_ {A = Concatenation} (record { width = 16; reference = n; total = getD o 2 0; number = getD o 3 0 }) (wideIn o)
-wide-told n o e = rw e
 
 -- ---- judging
 pub opens-told : (b : Bool) (c : Concatenation) → b ≡ alone c → b || eqb (c .number) 1 ≡ opens c
@@ -269,26 +179,6 @@ pub ruleset steps = (
   needs,
   octet-fits-16,
   octet-fits-64,
-  past-end,
-  past-lone,
-  read-whole,
-  past-long,
-  plus-narrow,
-  plus-wide,
-  plus-command,
-  plus-response,
-  wrong-narrow,
-  wrong-wide,
-  wrong-command,
-  wrong-response,
-  plus-other,
-  walked-end,
-  walked-past,
-  walked-read,
-  own-end,
-  own-fits,
-  step-falls,
-  wide-told,
   opens-told,
   misplaced-told,
   judged-element,

@@ -1,14 +1,14 @@
 -- How the laws of reading are shown: what the elements take of a header, what a concatenation says, and what was tested where something
 -- is given.
 use Prim.Native.Nat.{ℕ, zero, suc, _+_, _*_, _/_, _%_, _≤_, _<_}
-use mathlib.Core.Path.{_≡_, refl, sym, _∙_, subst, subst⁻¹}
+use mathlib.Core.Path.{_≡_, refl, sym, _∙_, subst}
 use mathlib.Core.List.{List, [], _∷_}
 use mathlib.Core.Bool.{Bool, true, false, not, cond, _||_, or-true}
 use mathlib.Core.Option.{Option, none, some}
 use native.Mathlib.Omega.{arith}
 use lib.ListN.{length, getD, take, drop, length-drop}
 use lib.Seq.{length-take-le, getD-drop}
-use lib.Dec.{eqb, ltb, leb, leb·zero, leb·suc-zero, leb·suc-suc}
+use lib.Dec.{eqb, ltb, leb}
 use borrow.Author.Tests.{eqb-true, not-false, eqb-false, ne-eqb, lt-ltb, ltb-false, leb-false}
 use Rattle.octets.specs.Tests.{neither}
 use Rattle.packet.specs.declared.Kind.{Kind}
@@ -17,25 +17,14 @@ use Rattle.packet.specs.Refusals.{Outcome, gives, refuse_when_otherwise_}
 use Rattle.packet.specs.Packets.{differ}
 use Rattle.octets.specs.Octets.{numberOf}
 use Rattle.octets.specs.Laws.{number-fits}
-use Rattle.arrival.specs.declared.Concatenation.{Concatenation}
-use Rattle.arrival.specs.declared.Seen.{Seen}
+use Rattle.header.specs.declared.Concatenation.{Concatenation}
+use Rattle.header.specs.declared.Seen.{Seen}
+use Rattle.header.specs.Laws.{by-number}
 use Rattle.arrival.specs.Arrivals.{Brought, single, part}
-use Rattle.arrival.specs.Header.{Item, item, _∷?_, elementsAfter, elements, has, isConcatenation, wrongLength, concatenationIn, noConcatenation, anyOf, lastConcatenation, concatenationOf, summary}
+use Rattle.header.specs.Header.{Item, item, _∷?_, elementsAfter, elements, has, isConcatenation, wrongLength, concatenationIn, noConcatenation, anyOf, lastConcatenation, concatenationOf, summary}
 use Rattle.arrival.specs.Message.{mostUserData, udhl, headerOctets, afterHeader, alone, own, foreign, opens, misplaced, mostParts, messageKey, judged, whereRead, readMessage}
 use Rattle.arrival.specs.Page.{pageOctets, pageHeader, serialIn, identifierIn, parameterIn, oneOfOne, pageNumber, pageTotal, identifierInRange, noPages, pageKey, readPage}
 use Rattle.arrival.specs.Keys.{referenceFits, room}
-
--- ---- how the elements unfold
--- what is left of an element that has begun is stepped over, where it is there
-pub after : (k : ℕ) (l : List ℕ) → elementsAfter k l ≡ cond (leb k (length l)) (elements (drop k l)) none
-unfolding elementsAfter
-after zero l = rw leb·zero
-after (suc k) [] = rw leb·suc-zero
-after (suc k) (a ∷ r) = rw leb·suc-suc (after k r)
-
-pub before-cond : (e : Item) (b : Bool) (o : Option (List Item)) → e ∷? cond b o none ≡ cond b (e ∷? o) none
-before-cond e true o = refl
-before-cond e false o = refl
 
 -- ---- the elements fill the header
 -- what elements take of a header: each its identifier, its length and its octets
@@ -70,13 +59,6 @@ elements-taken h es e = let f : Fills 0 (some es) (length h) = rw e at (fills 0 
 by-bool : (P : Bool → Type 0) (b : Bool) → (b ≡ true → P true) → (b ≡ false → P false) → P b
 by-bool P true t f = t refl
 by-bool P false t f = f refl
-
-pub by-number : (P : ℕ → Type 0) (a k : ℕ) → P k → (eqb a k ≡ false → P a) → P a
-by-number P a k same other = go (eqb a k) refl
-  where
-    go : (b : Bool) → eqb a k ≡ b → P a
-    go true e = subst⁻¹ P (eqb-true a k e) same
-    go false e = other e
 
 -- ---- what a concatenation element and packet identifiers take of a header at least
 abbrev pub bit : Bool → ℕ

@@ -14,10 +14,10 @@ use Rattle.packet.specs.declared.Kind.the-variants.{Command, Response}
 use Rattle.packet.specs.Refusals.{gives}
 use Rattle.packet.specs.Packets.{differ}
 use Rattle.octets.specs.Octets.{numberOf}
-use Rattle.arrival.specs.declared.Concatenation.{Concatenation}
-use Rattle.arrival.specs.declared.Seen.{Seen}
+use Rattle.header.specs.declared.Concatenation.{Concatenation}
+use Rattle.header.specs.declared.Seen.{Seen}
 use Rattle.arrival.specs.Arrivals.{single, part}
-use Rattle.arrival.specs.Header.{Item, item, elements, elementsAfter, summary}
+use Rattle.header.specs.Header.{Item, item, elements, elementsAfter, summary}
 use Rattle.arrival.specs.Message.{mostUserData, alone, mostParts, messageKey, judged, readMessage}
 use Rattle.arrival.specs.Keys.{room}
 use Rattle.arrival.specs.Bounds.{bit, room-fills}

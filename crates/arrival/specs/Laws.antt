@@ -2,38 +2,25 @@
 -- What they are shown from stands in `Bounds.antt`.
 use Prim.Native.Nat.{ℕ, _+_, _*_, _≤_}
 use mathlib.Core.Path.{_≡_, refl}
-use mathlib.Core.List.{List, [], _∷_}
-use mathlib.Core.Bool.{true, false, not, cond}
-use mathlib.Core.Option.{none, some}
+use mathlib.Core.List.{List}
+use mathlib.Core.Bool.{true, false, not}
+use mathlib.Core.Option.{some}
 use native.Mathlib.Omega.{arith}
-use lib.ListN.{length, take, drop, length-drop}
-use lib.Dec.{eqb, leb}
+use lib.ListN.{length, drop, length-drop}
+use lib.Dec.{eqb}
 use borrow.Author.Tests.{le-leb, eq-eqb, not-true}
 use Rattle.packet.specs.declared.Kind.{Kind}
 use Rattle.packet.specs.Refusals.{gives}
 use Rattle.arrival.specs.declared.Key.{Key}
-use Rattle.arrival.specs.declared.Concatenation.{Concatenation}
+use Rattle.header.specs.declared.Concatenation.{Concatenation}
 use Rattle.arrival.specs.Arrivals.{Brought, single, part}
 use Rattle.arrival.specs.Message.{alone, afterHeader, mostParts, messageKey, readMessage}
 use Rattle.arrival.specs.Page.{pageOctets, pageHeader, pageContent, parameterIn, pageTotal, pageNumber, serialIn, identifierIn, pageKey, readPage}
 use Rattle.arrival.specs.Keys.{ofPages, referenceFits, keyFormed, totalFits, room, lengthFits}
-use Rattle.arrival.specs.Header.{Item, item, _∷?_, elementsAfter, elements}
-use Rattle.arrival.specs.Bounds.{after, before-cond, taken, elements-taken, Octets, Says, HasWidth, bit, cost, by-width, Read, read, not-alone, some-total, room-fills, given-as, parameter-bounds, PageRead, page-given-as}
+use Rattle.header.specs.Header.{Item, elements}
+use Rattle.arrival.specs.Bounds.{taken, elements-taken, Octets, Says, HasWidth, bit, cost, by-width, Read, read, not-alone, some-total, room-fills, given-as, parameter-bounds, PageRead, page-given-as}
 
 -- ---- the elements of a header
--- none, a lone identifier, and one element before the rest
-pub elements-none : elements [] ≡ some []
-unfolding elementsAfter
-elements-none = refl
-
-pub elements-lone : (a : ℕ) → elements (a ∷ []) ≡ none
-unfolding elementsAfter
-elements-lone a = refl
-
-pub elements-more : (a n : ℕ) (r : List ℕ) → elements (a ∷ n ∷ r) ≡ cond (leb n (length r)) (item a (take n r) ∷? elements (drop n r)) none
-unfolding elementsAfter
-elements-more a n r = rw (after n r) (before-cond (item a (take n r)) (leb n (length r)) (elements (drop n r)))
-
 -- They fill it exactly: `taken` counts two octets and its own for each.
 pub elements-fill : (h : List ℕ) (es : List Item) → elements h ≡ some es → taken es ≡ length h
 elements-fill = elements-taken

@@ -1,9 +1,7 @@
 pub mod Arrivals
-pub mod Header
 pub mod Message
 pub mod Page
 pub mod Keys
-pub mod Reading
 pub mod Bounds
 pub mod Laws
 pub mod Forms

@@ -10,10 +10,10 @@ use Rattle.packet.specs.declared.Kind.the-variants.{Command, Response}
 use Rattle.packet.specs.Refusals.{Outcome, refused, gives, refuse_when_otherwise_}
 use Rattle.packet.specs.Packets.{differ}
 use Rattle.arrival.specs.declared.Key.{Key}
-use Rattle.arrival.specs.declared.Concatenation.{Concatenation}
-use Rattle.arrival.specs.declared.Seen.{Seen}
+use Rattle.header.specs.declared.Concatenation.{Concatenation}
+use Rattle.header.specs.declared.Seen.{Seen}
 use Rattle.arrival.specs.Arrivals.{Brought, single, part}
-use Rattle.arrival.specs.Header.{Item, elements, summary}
+use Rattle.header.specs.Header.{Item, elements, summary}
 
 -- "User data: 0 to 140 octets, beginning with the header length UDHL."
 abbrev pub mostUserData : ℕ

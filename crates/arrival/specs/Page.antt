@@ -63,3 +63,7 @@ readPage k page =
     cond (eqb (pageTotal (parameterIn page)) 1)
     (gives (single pageHeader))
     (gives (part (pageKey (serialIn page) (identifierIn page)) (pageTotal (parameterIn page)) (pageNumber (parameterIn page)) pageHeader))
+
+-- 5 of a page
+abbrev pub misdirected : Kind → ℕ → Bool
+misdirected k identifier = noPages k || not (identifierInRange identifier)

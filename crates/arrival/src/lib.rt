@@ -3,7 +3,6 @@ use packet::Refusal;
 ghost use mathlib.Core.Path.{_≡_};
 ghost use lib.ListN.{drop};
 
-mod header;
 pub mod message;
 pub mod page;
 
@@ -20,50 +19,6 @@ pub struct Key {
     pub reference: u16,
     pub serial: SerialNumber,
     pub identifier: MessageIdentifier,
-}
-
-// What a concatenation element says: the width of its reference in bits, the reference, how many parts there are and which this is.
-pub struct Concatenation {
-    pub width: u8,
-    pub reference: u16,
-    pub total: u8,
-    pub number: u8,
-}
-
-// What the elements of a header say together.
-pub struct Seen {
-    // an element that counts is of wrong length
-    pub wrong: bool,
-    // a concatenation element, or the same packet identifier, was given twice
-    pub twice: bool,
-    pub concatenation: Concatenation,
-    // the packet identifier of commands is there, and that of responses
-    pub command: bool,
-    pub response: bool,
-}
-
-// A reading position in a header.
-pub struct Cursor {
-    pub at: usize,
-}
-
-// What stands at a reading position.
-pub enum Element {
-    // A whole element: its identifier, where its octets start and how many they are; next is past it.
-    Read {
-        id: u8,
-        start: usize,
-        len: usize,
-        next: Cursor,
-    },
-    // A lone identifier, or octets that run past the header's end.
-    Past,
-}
-
-// What a header comes to.
-pub enum Walked {
-    Header(Seen),
-    Past,
 }
 
 // What a message or a page brings. The octets from `start` on are the part's own.

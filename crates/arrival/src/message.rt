@@ -1,13 +1,13 @@
 // What the user data of a short message brings (01, "User data header" and "Numbers of refusal"): 2, 3, 4, 5, 6 in this order.
 use crate::Arrival;
-use crate::Concatenation;
-use crate::Cursor;
 use crate::Key;
 use crate::MessageIdentifier;
-use crate::Seen;
 use crate::SerialNumber;
-use crate::Walked;
-use crate::header::walk;
+use header::Concatenation;
+use header::Cursor;
+use header::Seen;
+use header::Walked;
+use header::walk;
 use packet::Kind;
 use packet::Refusal;
 ghost use mathlib.Core.Path.{_≡_};

@@ -8,8 +8,7 @@ use packet::Refusal;
 ghost use mathlib.Core.Path.{_≡_};
 ghost use lib.ListN.{length};
 ghost use Rattle.arrival.specs.Arrivals.{toldArrival};
-ghost use Rattle.arrival.specs.Page.{pageOctets, serialIn, identifierIn, oneOfOne, pageNumber, pageTotal, identifierInRange, noPages, pageKey, readPage};
-ghost use Rattle.arrival.specs.Reading.{misdirected};
+ghost use Rattle.arrival.specs.Page.{pageOctets, serialIn, identifierIn, oneOfOne, pageNumber, pageTotal, identifierInRange, noPages, misdirected, pageKey, readPage};
 
 // Whether a page parameter has a zero in either half, which means page 1 of 1.
 fn is_one_of_one(parameter: u8) -> bool

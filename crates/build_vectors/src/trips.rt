@@ -13,7 +13,6 @@ use packet::ResponseBody;
 use packet::Tar;
 use packet::Written;
 use packet::read;
-use packet::show;
 use vectors::either::What;
 
 // ---- built again, of what reading and showing tell

@@ -16,8 +16,8 @@ use Rattle.arrival.specs.Arrivals.{Brought, single, part}
 use Rattle.arrival.specs.Laws.{Admitted}
 use Rattle.slots.specs.declared.Slot.{Slot}
 use Rattle.slots.specs.Slots.{slotAt, freeSlot, freshRecord}
-use Rattle.slots.specs.Formed.{recordFormed}
-use Rattle.slots.specs.FormedLaws.{Formed, formed-told, fresh-formed}
+use Rattle.formed.specs.Formed.{recordFormed}
+use Rattle.formed.specs.Laws.{Formed, formed-told, fresh-formed}
 use Rattle.series.specs.Cells.{cellsSize}
 use Rattle.series.specs.Taking.{State, After, state, refuse, unfit, taken, takeMessage, takePage}
 use Rattle.series.specs.KeepLaws.{Sound, SoundAfter, taken-sound, taken-kind}

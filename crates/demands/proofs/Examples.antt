@@ -7,13 +7,13 @@ use Rattle.joined.specs.Fronts.{packetIn}
 use Rattle.demands.specs.Examples.{examples, Every, Right}
 use borrow.Author.Tests.{eq-eqb}
 use Rattle.octets.specs.Octets.{sameOctets, placed}
-use Rattle.arrival.specs.Header.{elementsAfter, summary}
+use Rattle.header.specs.Header.{elementsAfter, summary}
 use Rattle.arrival.specs.Message.{judged, readMessage}
 use Rattle.arrival.specs.Page.{readPage}
 use Rattle.arrival.specs.Keys.{keyFormed, lengthFits}
 use Rattle.slots.specs.Below.{allBelow, anyBelow, countBelow}
 use Rattle.slots.specs.Slots.{find, aged, closed, toFront, freed}
-use Rattle.slots.specs.Formed.{allZero, usedFormed, slotFormed, keysDiffer, ranked, slotsFormed}
+use Rattle.formed.specs.Formed.{allZero, usedFormed, slotFormed, keysDiffer, ranked, slotsFormed}
 use Rattle.series.specs.Cells.{cellPart, joined, joinedOctets}
 use Rattle.series.specs.Taking.{step, takePart, takeMessage, takePage}
 

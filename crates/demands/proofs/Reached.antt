@@ -15,7 +15,7 @@ use Rattle.packet.specs.Refusals as reading
 use Rattle.packet.specs.Packets.{mostOctets}
 use Rattle.arrival.specs.declared.Key.{Key}
 use Rattle.arrival.specs.Arrivals.{part}
-use Rattle.arrival.specs.Header.{elementsAfter, summary}
+use Rattle.header.specs.Header.{elementsAfter, summary}
 use Rattle.arrival.specs.Message.{judged, readMessage}
 use Rattle.arrival.specs.Keys.{keyFormed, lengthFits}
 use Rattle.joined.specs.Fronts.{packetIn}
@@ -23,7 +23,7 @@ use Rattle.slots.specs.declared.Slot.{Slot}
 use Rattle.slots.specs.Below.{allBelow, anyBelow, countBelow}
 use Rattle.slots.specs.BelowLaws.{all-at}
 use Rattle.slots.specs.Slots.{slotCount, slotAt, freeSlot, find, aged, closed, toFront, freed}
-use Rattle.slots.specs.Formed.{allZero, usedFormed, slotFormed, keysDiffer, ranked, slotsFormed}
+use Rattle.formed.specs.Formed.{allZero, usedFormed, slotFormed, keysDiffer, ranked, slotsFormed}
 use Rattle.series.specs.Cells.{cellsSize, cellPart, joinedOctets}
 use Rattle.series.specs.Taking.{step, takePart, takeMessage, packet, kept}
 use Rattle.series.specs.Calls.{read, octetsOf}

@@ -19,8 +19,8 @@ use Rattle.arrival.specs.Keys.{ofPages}
 use Rattle.joined.specs.Fronts.{packetIn}
 use Rattle.slots.specs.declared.Record.{Record}
 use Rattle.slots.specs.Slots.{slotAt, freed, withSlots}
-use Rattle.slots.specs.Formed.{recordFormed}
-use Rattle.slots.specs.FormedLaws.{Formed, formed-tells}
+use Rattle.formed.specs.Formed.{recordFormed}
+use Rattle.formed.specs.Laws.{Formed, formed-tells}
 use Rattle.series.specs.Cells.{cellsSize, joinedOctets}
 use Rattle.series.specs.Taking.{State, After, Answer, kept, heldAlready, packet, refused, Step, handOut, acted, step, takePart, taken, unfit, refuse}
 use Rattle.series.specs.CaseLaws.{Case, other-total, other-octets, again, last, more, opens, displaces, case-of}

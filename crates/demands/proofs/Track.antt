@@ -17,10 +17,10 @@ use Rattle.arrival.specs.Message.{mostParts}
 use Rattle.arrival.specs.Keys.{lengthFits}
 use Rattle.slots.specs.declared.Slot.{Slot}
 use Rattle.slots.specs.Slots.{slotAt, freeSlot, opened, atRank, heldAt, lengthAt, withPart, aged, closed, toFront, freed}
-use Rattle.slots.specs.Formed.{markAt, sizeAt, partFormed}
+use Rattle.formed.specs.Formed.{markAt, sizeAt, partFormed}
 use Rattle.slots.specs.RankLaws.{Aged, free, moves, yields, stays, aged?, aged-taken, closed-taken, closed-near, closed-far, pos-taken}
 use Rattle.slots.specs.FrontLaws.{front-here, front-there, freed-here, freed-there}
-use Rattle.slots.specs.FormedLaws.{Formed, UsedSlot, slot-tells}
+use Rattle.formed.specs.Laws.{Formed, UsedSlot, slot-tells}
 use Rattle.series.specs.Cells.{cellOctets, cellsSize, cellAt, cellPart}
 use Rattle.series.specs.CellLaws.{part-by-length, cell-here, cell-there}
 use Rattle.series.specs.CaseLaws.{Bears, Lacks}

@@ -21,7 +21,7 @@ use Rattle.series.specs.Taking.{State, After, state, handOut, acted, step, take
 use Rattle.series.specs.Calls.{Input, message, page, read, octetsOf}
 use Rattle.series.specs.CaseLaws.{Lacks, Case, case-of}
 use Rattle.slots.specs.FrontLaws.{same-key, key-same}
-use Rattle.slots.specs.FormedLaws.{Formed}
+use Rattle.formed.specs.Laws.{Formed}
 use Rattle.series.specs.KeepLaws.{Sound}
 use Rattle.slots.specs.declared.Record.{Record}
 use Rattle.demands.specs.Runs.{Call, Store, outcome, left, Octets, Proper, Each}

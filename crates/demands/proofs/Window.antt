@@ -24,10 +24,10 @@ use Rattle.slots.specs.declared.Slot.{Slot}
 use Rattle.slots.specs.Below.{allBelow}
 use Rattle.slots.specs.BelowLaws.{all-at, all-same, count-at-most}
 use Rattle.slots.specs.Slots.{slotAt, freeSlot, opened, used, atRank, heldAt, lengthAt, withPart, withSlots, aged, closed, toFront, freed}
-use Rattle.slots.specs.Formed.{markAt}
+use Rattle.formed.specs.Formed.{markAt}
 use Rattle.slots.specs.RankLaws.{taken, pos-taken, aged-taken, closed-taken, rank-bound, ranks-differ}
 use Rattle.slots.specs.FrontLaws.{front-here, front-there, freed-here, freed-there}
-use Rattle.slots.specs.FormedLaws.{Formed, UsedSlot, slot-tells}
+use Rattle.formed.specs.Laws.{Formed, UsedSlot, slot-tells}
 use Rattle.series.specs.PartLaws.{total-bounds}
 use Rattle.series.specs.Cells.{cellOctets, cellsSize, cellAt, cellPart, joined, partOf, joinedOctets}
 use Rattle.series.specs.CellLaws.{part-by-length, cell-there}

@@ -5,7 +5,7 @@ use mathlib.Core.Bool.{true}
 use mathlib.Core.List.{List}
 use Rattle.packet.specs.declared.Kind.{Kind}
 use Rattle.slots.specs.Slots.{slotAt}
-use Rattle.slots.specs.Formed.{recordFormed}
+use Rattle.formed.specs.Formed.{recordFormed}
 use Rattle.series.specs.Calls.{octetsOf}
 use Rattle.demands.specs.Runs.{Call, fresh, run, Octets, Each}
 

@@ -5,7 +5,7 @@ use mathlib.Core.Option.{some}
 use mathlib.Core.Path.{_≡_}
 use lib.ListN.{length}
 use Rattle.packet.specs.declared.Kind.{Kind}
-use Rattle.arrival.specs.Header.{Item, elements}
+use Rattle.header.specs.Header.{Item, elements}
 use Rattle.arrival.specs.Message.{udhl, headerOctets, readMessage}
 
 -- elements in another order: two neighbours change places, as often as one likes

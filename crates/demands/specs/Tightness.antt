@@ -57,6 +57,7 @@ pub record Promises : Type 0 where
 
 -- Where the promise is that the outcome itself is what the rule says, nothing else can be told of it: wide, pair_of, number_of, put (the answer
 -- and the buffer), same, formed, well_formed, fresh, record_formed, the octets of the part that a showing call, up_to or own_octets gives, and
--- the other calls between crates: before, least, cipher_bit, ciphered_command, no_front, octet_after, opened, free_slot, new_place.
+-- the other calls between crates: before, least, cipher_bit, ciphered_command, element, nothing, plus, walk, no_front, octet_after, opened,
+-- free_slot, same_key, new_place.
 abbrev pub PlainPromises : Type 1
 PlainPromises = (Outcome : Type 0) → Tight {Outcome = Outcome} {Paper = Outcome} (λ r. r)

@@ -1,4 +1,2 @@
-pub mod Digits
-pub mod Laws
 pub mod Texts
 pub mod Words

@@ -1,19 +1,15 @@
 -- Text is put into a lent buffer piece behind piece. A piece that does not fit is left out.
-use Prim.Native.Nat.{ℕ, _+_}
+use Prim.Native.Nat.{ℕ}
 use mathlib.Core.Bool.{true, false, cond}
 use mathlib.Core.List.{List}
-use lib.ListN.{length}
 use borrow.Author.Needs.{needs}
 use mathlib.Core.Path.{_≡_, refl}
 use Rattle.io.specs.Digits.{digits, Fewest}
+use Rattle.digits.specs.Digits.{endOf}
 use Rattle.lines.specs.declared.Gathered.{Gathered}
 use Rattle.lines.specs.declared.Said.{Said}
 use Rattle.octets.specs.Octets.{fitsAt, afterPut}
 use Rattle.octets.specs.Tests.{clash}
-
--- where the text ends after a piece was put at a place
-abbrev pub endOf : List ℕ → ℕ → List ℕ → ℕ
-endOf text at piece = cond (fitsAt text at piece) (at + length piece) at
 
 -- what is gathered of a line after a piece more
 abbrev pub gathered : List ℕ → Gathered → List ℕ → Gathered

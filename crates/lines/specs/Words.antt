@@ -6,7 +6,7 @@ use lib.Dec.{eqb}
 use lib.ListN.{length, drop}
 use Rattle.octets.specs.Octets.{sameOctets}
 use Rattle.lines.specs.declared.Word.{Word}
-use Rattle.lines.specs.Digits.{between}
+use Rattle.digits.specs.Digits.{between}
 
 abbrev pub isBlank : ℕ → Bool
 isBlank x = eqb x 32 || eqb x 9 || eqb x 13

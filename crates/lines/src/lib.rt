@@ -1,23 +1,10 @@
-// Lines of text: their words, octets and numbers read from them and written to them. Every call takes anything.
-pub mod digits;
+// Lines of text: their words, octets and numbers read from them, and answers put together. Every call takes anything.
 pub mod pieces;
 pub mod texts;
 pub mod words;
 
 // The most octets that a line of 9,000 characters can have.
 pub const OCTETS: usize = 4500;
-
-// What a word of octets comes to: how many octets it has.
-pub struct Octets {
-    pub understood: bool,
-    pub count: usize,
-}
-
-// What a decimal word comes to.
-pub struct Number {
-    pub understood: bool,
-    pub value: u32,
-}
 
 // A word of a line: from `start` up to, not including, `end`.
 pub struct Word {

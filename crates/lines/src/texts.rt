@@ -1,14 +1,13 @@
 // Answers as text: pieces put one behind the other into a lent buffer. A piece that does not fit is left out, so that every call is safe
 // for any buffer; one that has room for a whole answer gets it whole.
 use crate::Said;
-use crate::digits;
 use packet::Refusal;
 use packet::Written;
 ghost use mathlib.Core.Bool.{true, false};
 ghost use mathlib.Core.Path.{_≡_};
 ghost use Rattle.octets.specs.Octets.{afterPut};
-ghost use Rattle.lines.specs.Digits.{octetsText};
-ghost use Rattle.lines.specs.Texts.{endOf, Printed};
+ghost use Rattle.digits.specs.Digits.{endOf, octetsText};
+ghost use Rattle.lines.specs.Texts.{Printed};
 
 // Puts a piece at a place and says where the text then ends.
 pub fn say(piece: &[u8], text: &mut [u8], at: usize) -> usize

@@ -13,7 +13,6 @@ ghost use mathlib.Core.Path.{_≡_};
 ghost use lib.ListN.{length};
 ghost use Rattle.io.specs.Counts.{Counts};
 ghost use Rattle.lines.specs.Words.{isBlank, goesOn, past, wordFrom, small, isName};
-use crate::digits;
 
 // Whether a character parts words: a space, a tab, or the carriage return that some files have before a line's end.
 fn is_blank(x: u8) -> bool

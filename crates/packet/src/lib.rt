@@ -1,7 +1,6 @@
 // Secured packets (TS 31.115, TS 102 225): what they are made of, reading, and showing their parts.
 pub mod layout;
 pub mod read;
-pub mod show;
 
 ghost use mathlib.Core.Path.{_≡_};
 ghost use Rattle.packet.specs.Refusals.{numberOf};

@@ -17,7 +17,6 @@ use packet::Response;
 use packet::ResponseBody;
 use packet::Tar;
 use packet::read;
-use packet::show;
 ghost use Rattle.lines.specs.Texts.{Unsaid};
 
 // ---- fields as text

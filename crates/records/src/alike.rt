@@ -1,8 +1,8 @@
 // Whether two records are the same in every field, mark and length.
-use arrival::Key;
 use packet::Kind;
 use slots::Record;
 use slots::Slot;
+use slots::find::same_key;
 
 // Which of the two kinds it is.
 fn is_command(kind: Kind) -> bool {
@@ -10,15 +10,6 @@ fn is_command(kind: Kind) -> bool {
         Kind::Command => true,
         Kind::Response => false,
     }
-}
-
-// Every field of two keys.
-fn same_key(a: Key, b: Key) -> bool {
-    (a.sender == b.sender)
-        & (a.width == b.width)
-        & (a.reference == b.reference)
-        & (a.serial.0 == b.serial.0)
-        & (a.identifier.0 == b.identifier.0)
 }
 
 // Marks and lengths.

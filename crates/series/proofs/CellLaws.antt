@@ -20,7 +20,7 @@ use Rattle.arrival.specs.Page.{pageContent}
 use Rattle.arrival.specs.Keys.{ofPages, lengthFits}
 use Rattle.slots.specs.declared.Slot.{Slot}
 use Rattle.slots.specs.Slots.{slotCount, lengthAt}
-use Rattle.slots.specs.Formed.{markAt, sizeAt, partFormed}
+use Rattle.formed.specs.Formed.{markAt, sizeAt, partFormed}
 use Rattle.series.specs.Cells.{cellOctets, cellsSize, cellAt, cellPart, joined, joinedOctets}
 use Rattle.series.specs.Handing.{Place, cellStart, Short, pieceOf, seriesOctets}
 

@@ -25,10 +25,10 @@ use Rattle.slots.specs.declared.Slot.{Slot}
 use Rattle.slots.specs.declared.Record.{Record}
 use Rattle.slots.specs.BelowLaws.{count-at-most}
 use Rattle.slots.specs.Slots.{slotCount, slotAt, used, sameKey, bears, find}
-use Rattle.slots.specs.Formed.{recordFormed}
+use Rattle.formed.specs.Formed.{recordFormed}
 use Rattle.slots.specs.RankLaws.{pos-taken, rank-bound}
 use Rattle.slots.specs.FrontLaws.{Found, hit, miss, find?}
-use Rattle.slots.specs.FormedLaws.{UsedSlot, formed-tells, slot-tells}
+use Rattle.formed.specs.Laws.{UsedSlot, formed-tells, slot-tells}
 use Rattle.series.specs.PartLaws.{total-bounds}
 use Rattle.series.specs.Cells.{cellsSize}
 use Rattle.series.specs.Taking.{state, unfit}

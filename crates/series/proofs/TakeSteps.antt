@@ -35,7 +35,7 @@ use Rattle.series.specs.declared.take.Step.the-variants.{Refuses, Repeat
 use Rattle.slots.specs.BelowLaws.{all-from, all-more, all-through}
 use Rattle.slots.specs.Found.{toldFound, found-inside, openingIn, newPlace}
 use Rattle.slots.specs.Slots.{slotCount, slotAt, bears, isFree, find, leastRecent, opened, heldAt, lengthAt, withPart, toFront, freed, withSlots}
-use Rattle.slots.specs.Formed.{recordFormed}
+use Rattle.formed.specs.Formed.{recordFormed}
 use Rattle.series.specs.Cells.{cellsSize, cellAt, cellPart, joinedOctets}
 use Rattle.series.specs.Handing.{Short, cellStart, seriesOctets}
 use Rattle.series.specs.Taking.{State, Answer, After, kept, heldAlready, packet, refused, state, after, handOut, completes, Step, refuses, repeats, keeps, finishes, stepNew, step, acted, takePart, takeMessage, takePage}

@@ -18,7 +18,7 @@ use Rattle.series.specs.Cells.{cellPart}
 use Rattle.series.specs.Taking.{State, Step, refuses, repeats, keeps, finishes, completes, stepIn, stepNew, stepFor, step}
 use Rattle.slots.specs.RankLaws.{pos-taken, last-rank}
 use Rattle.slots.specs.FrontLaws.{same-key, key-same, Found, hit, miss, find?}
-use Rattle.slots.specs.FormedLaws.{Formed}
+use Rattle.formed.specs.Laws.{Formed}
 
 -- slot i bears a series of that key; no slot does
 pub record Bears (n : ℕ) (xs : List Slot) (X : Key) (i : ℕ) : Type 0 where

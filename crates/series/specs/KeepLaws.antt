@@ -21,8 +21,8 @@ use Rattle.joined.specs.Fronts.{packetIn}
 use Rattle.slots.specs.declared.Slot.{Slot}
 use Rattle.slots.specs.declared.Record.{Record}
 use Rattle.slots.specs.Slots.{slotAt, opened, atRank, withPart, heldAt, toFront, freed, withSlots}
-use Rattle.slots.specs.Formed.{slotFormed, recordFormed}
-use Rattle.slots.specs.FormedLaws.{Formed, UsedSlot, formed-tells, slot-tells, slot-front, front-formed, free-formed}
+use Rattle.formed.specs.Formed.{slotFormed, recordFormed}
+use Rattle.formed.specs.Laws.{Formed, UsedSlot, formed-tells, slot-tells, slot-front, front-formed, free-formed}
 use Rattle.series.specs.PartLaws.{total-bounds, ready-held, ready-opened, part-more}
 use Rattle.series.specs.CaseLaws.{Bears, Lacks, Case, other-total, other-octets, again, last, more, opens, displaces, case-of}
 use Rattle.series.specs.Cells.{cellOctets, cellsSize, joinedOctets}

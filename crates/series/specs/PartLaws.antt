@@ -16,8 +16,8 @@ use Rattle.slots.specs.declared.Slot.{Slot}
 use Rattle.slots.specs.Below.{countBelow}
 use Rattle.slots.specs.BelowLaws.{all-fails, count-one, count-less, count-below}
 use Rattle.slots.specs.Slots.{opened, heldAt, withPart}
-use Rattle.slots.specs.Formed.{markAt, sizeAt, partFormed, heldCount}
-use Rattle.slots.specs.FormedLaws.{UsedSlot}
+use Rattle.formed.specs.Formed.{markAt, sizeAt, partFormed, heldCount}
+use Rattle.formed.specs.Laws.{UsedSlot}
 use Rattle.series.specs.Taking.{completes}
 
 pub total-bounds : (key : Key) (t : ℕ) → totalFits key t ≡ true → (2 ≤ t) × (t ≤ mostParts)

@@ -19,7 +19,7 @@ use Rattle.slots.specs.declared.Record.{Record}
 use Rattle.series.specs.declared.Answer as declared
 use Rattle.slots.specs.Below.{allBelow}
 use Rattle.slots.specs.Slots.{slotAt, used, bears, isFree, find, slotOr, leastRecent, opened, heldAt, withPart, toFront, freed, withSlots}
-use Rattle.slots.specs.Formed.{recordFormed, markAt}
+use Rattle.formed.specs.Formed.{recordFormed, markAt}
 use Rattle.series.specs.Cells.{cellsSize, cellAt, cellPart, joinedOctets}
 
 -- ---- what a call works on, and what it comes to

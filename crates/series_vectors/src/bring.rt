@@ -34,7 +34,7 @@ fn judge(state: Record, args: &[u8], cells: &mut [u8], out: &mut [u8]) {
     let mut page = [0; 88];
     octets::put(b"\x00\x00\x10\x80\x96\x11\x00\x0E\x0D", &mut page, 0);
     show::text(args);
-    report::truth(b", well formed", slots::formed::record_formed(state));
+    report::truth(b", well formed", formed::record_formed(state));
     show::text(b" message");
     show::take(state, false, 1, ud, cells, out);
     show::text(b" page");

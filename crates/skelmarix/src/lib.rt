@@ -35,28 +35,29 @@ pub use packet::read::formed;
 pub use packet::read::parse_command;
 pub use packet::read::parse_response;
 pub use packet::read::well_formed;
-pub use packet::show::command_check;
-pub use packet::show::command_data;
-pub use packet::show::command_opaque;
-pub use packet::show::response_check;
-pub use packet::show::response_data;
-pub use packet::show::response_opaque;
+pub use show::command_check;
+pub use show::command_data;
+pub use show::command_opaque;
+pub use show::response_check;
+pub use show::response_data;
+pub use show::response_opaque;
 
 // Arrivals: what one message or page brings.
 pub use arrival::Arrival;
-pub use arrival::Concatenation;
-pub use arrival::Cursor;
-pub use arrival::Element;
 pub use arrival::Key;
 pub use arrival::MessageIdentifier;
-pub use arrival::Seen;
 pub use arrival::SerialNumber;
-pub use arrival::Walked;
 pub use arrival::message::read_message;
 pub use arrival::own_octets;
 pub use arrival::page::read_page;
+pub use header::Concatenation;
+pub use header::Cursor;
+pub use header::Element;
+pub use header::Seen;
+pub use header::Walked;
 
 // Series: the record, and taking what arrives.
+pub use formed::record_formed;
 pub use series::Answer;
 pub use series::Taken;
 pub use series::take::take_message;
@@ -64,7 +65,6 @@ pub use series::take::take_page;
 pub use slots::Record;
 pub use slots::Slot;
 pub use slots::find::fresh;
-pub use slots::formed::record_formed;
 
 // Splitting: one part a call.
 pub use split::WrittenPart;

@@ -4,6 +4,3 @@ pub mod Slots
 pub mod RankLaws
 pub mod FrontLaws
 pub mod Found
-pub mod Formed
-pub mod FormedLaws
-pub mod FormedPieces

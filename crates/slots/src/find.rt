@@ -65,7 +65,7 @@ pub fn fresh(kind: Kind) -> Record
 }
 
 // Whether two keys are one: every field counts, so 8-bit 2A and 16-bit 002A are two series.
-pub(crate) fn same_key(a: Key, b: Key) -> bool
+pub fn same_key(a: Key, b: Key) -> bool
     ensures { λ r. ⌜ r ≡ sameKey a b ⌝ }
 {
     (a.sender == b.sender)

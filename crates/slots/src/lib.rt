@@ -1,6 +1,5 @@
-// The record of unfinished series: three slots, which of them are free or bear a key, and which records are well formed.
+// The record of unfinished series: three slots, and which of them are free or bear a key.
 pub mod find;
-pub mod formed;
 
 use arrival::Key;
 use packet::Kind;

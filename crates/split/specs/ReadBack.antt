@@ -16,10 +16,10 @@ use Rattle.octets.specs.Laws.{number-of-pair}
 use Rattle.packet.specs.declared.Kind.{Kind}
 use Rattle.packet.specs.declared.Kind.the-variants.{Command, Response}
 use Rattle.packet.specs.Refusals.{Outcome, gives}
-use Rattle.arrival.specs.declared.Concatenation.{Concatenation}
-use Rattle.arrival.specs.declared.Seen.{Seen}
+use Rattle.header.specs.declared.Concatenation.{Concatenation}
+use Rattle.header.specs.declared.Seen.{Seen}
 use Rattle.arrival.specs.Arrivals.{Brought, single, part}
-use Rattle.arrival.specs.Header.{elements, elementsAfter, summary}
+use Rattle.header.specs.Header.{elements, elementsAfter, summary}
 use Rattle.arrival.specs.Message.{mostUserData, mostParts, alone, judged, messageKey, whereRead, readMessage}
 use Rattle.arrival.specs.Page.{pageContent, pageHeader, identifierInRange, pageKey, readPage}
 use Rattle.arrival.specs.Keys.{referenceFits}

@@ -1,5 +1,4 @@
 // What a packet is taken for, and the parts that the library shows of it.
-use packet::show;
 
 // What a packet is taken for: a command, or a response with a plain or a ciphered body.
 pub enum What {

@@ -3,7 +3,6 @@
 pub mod either;
 
 use libc::STDOUT_FILENO;
-use lines::digits;
 use lines::words;
 use packet::Refusal;
 ghost use Prim.Native.Nat.{_≤_};

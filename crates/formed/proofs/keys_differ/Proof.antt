@@ -1,0 +1,38 @@
+-- `keys_differ` meets its contract: the flag is the test of the slots before i, and behind the last slot of all of them. Assumes nothing.
+use Prim.Native.Nat.{_≤_, _-_}
+use mathlib.Core.Path.{_≡_}
+use Rattle.slots.specs.Below.{allBelow}
+use Rattle.slots.specs.Slots.{slotCount}
+use Rattle.formed.specs.Pieces.{keyDiffers}
+use Rattle.formed.proofs.Steps.{formedSteps}
+use Rattle.formed.proofs.keys_differ.Statement.{statement}
+use Rattle.formed.proofs.keys_differ.Tie as tie
+
+abbrev Inv-loop : tie.InvT-loop
+Inv-loop state ok₀ i₀ ok i = (i ≤ slotCount) × (ok ≡ allBelow i (keyDiffers (state .slots)))
+
+abbrev μ-loop : tie.MeasureT-loop
+μ-loop state ok₀ i₀ ok i = slotCount - i
+
+loop-holds : tie.Need-loop-holds Inv-loop μ-loop
+loop-holds c = search formedSteps
+
+key-differs-requires : tie.Need-key-differs-requires Inv-loop μ-loop
+key-differs-requires c κs = search formedSteps
+
+add-i : tie.Need-add-i Inv-loop μ-loop
+add-i c = search formedSteps
+
+loop-less : tie.Need-loop-less Inv-loop μ-loop
+loop-less c = search formedSteps
+
+loop-again : tie.Need-loop-again Inv-loop μ-loop
+loop-again c = search formedSteps
+
+returns : tie.Need-returns Inv-loop μ-loop
+returns c = search formedSteps
+
+pub keys-differ-spec : {M : Type 1} → statement M
+keys-differ-spec =
+    tie.close
+    (tie.spec Inv-loop μ-loop loop-holds key-differs-requires add-i loop-less loop-again returns)

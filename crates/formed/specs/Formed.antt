@@ -1,0 +1,77 @@
+-- Which records are well formed (01, "Numbers"): those that the library can have made.
+use Prim.Native.Nat.{ℕ, suc, _+_}
+use mathlib.Core.Bool.{Bool, true, false, not, cond, _&&_, _||_}
+use mathlib.Core.List.{List}
+use lib.ListN.{length, getD}
+use lib.Dec.{eqb, ltb, leb}
+use Rattle.packet.specs.declared.Kind.{Kind}
+use Rattle.arrival.specs.declared.Key.{Key}
+use Rattle.arrival.specs.Message.{mostParts}
+use Rattle.arrival.specs.Keys.{keyFormed, totalFits, lengthFits}
+use Rattle.slots.specs.declared.Slot.{Slot}
+use Rattle.slots.specs.declared.Record.{Record}
+use Rattle.slots.specs.Below.{allBelow, anyBelow, countBelow}
+use Rattle.slots.specs.Slots.{slotAt, used, sameKey}
+
+-- "each with sixteen part lengths and sixteen held marks"
+abbrev pub sixteen : Slot → Bool
+sixteen x = eqb (length (x .lengths)) mostParts && eqb (length (x .held)) mostParts
+
+-- the mark and the length at place i, from 0
+abbrev pub markAt : Slot → ℕ → Bool
+markAt x i = getD (x .held) i false
+
+abbrev pub sizeAt : Slot → ℕ → ℕ
+sizeAt x i = getD (x .lengths) i 0
+
+-- "a free slot is all zero"
+abbrev pub zeroKey : Key → Bool
+zeroKey x =
+    eqb (x .sender) 0 && eqb (x .width) 0 && eqb (x .reference) 0 && eqb (x .serial .0) 0 && eqb (x .identifier .0) 0
+
+abbrev pub zeroPart : Slot → ℕ → Bool
+zeroPart x i = not (markAt x i) && eqb (sizeAt x i) 0
+
+unfoldable pub allZero : Slot → Bool
+allZero x = zeroKey (x .key) && eqb (x .total) 0 && allBelow mostParts (zeroPart x)
+
+-- "none past the total, length 0 where not held", and where held a length that the key allows
+abbrev pub partFormed : Slot → ℕ → Bool
+partFormed x i = cond (markAt x i) (ltb i (x .total) && lengthFits (x .key) (i + 1) (sizeAt x i)) (eqb (sizeAt x i) 0)
+
+-- how many parts are held
+abbrev pub heldCount : Slot → ℕ
+heldCount x = countBelow mostParts (markAt x)
+
+-- "a used one has a total of 2 to 16, at least one part held, not all"
+unfoldable pub usedFormed : Kind → Slot → Bool
+usedFormed k x =
+    keyFormed k (x .key) && totalFits (x .key) (x .total) && allBelow mostParts (partFormed x)
+    && ltb 0 (heldCount x) && ltb (heldCount x) (x .total)
+
+unfoldable pub slotFormed : Kind → Slot → Bool
+slotFormed k x = sixteen x && cond (used x) (usedFormed k x) (allZero x)
+
+-- "keys differ"
+abbrev pub clash : List Slot → ℕ → ℕ → Bool
+clash xs i j = used (slotAt xs i) && used (slotAt xs j) && sameKey (slotAt xs i .key) (slotAt xs j .key)
+
+unfoldable pub keysDiffer : ℕ → List Slot → Bool
+keysDiffer n xs = allBelow n (λ i. allBelow i (λ j. not (clash xs i j)))
+
+-- "the used slots are ranked 1, 2, .. by recency without gaps": with m of them used, each of 1 to m is a rank
+abbrev pub usedCount : ℕ → List Slot → ℕ
+usedCount n xs = countBelow n (λ i. used (slotAt xs i))
+
+abbrev pub isRank : ℕ → List Slot → ℕ → Bool
+isRank n xs r = anyBelow n (λ i. eqb (slotAt xs i .rank) r)
+
+unfoldable pub ranked : ℕ → List Slot → Bool
+ranked n xs = allBelow (usedCount n xs) (λ r. isRank n xs (r + 1))
+
+unfoldable pub slotsFormed : ℕ → Kind → List Slot → Bool
+slotsFormed n k xs =
+    eqb (length xs) n && allBelow n (λ i. slotFormed k (slotAt xs i)) && keysDiffer n xs && ranked n xs
+
+abbrev pub recordFormed : ℕ → Record → Bool
+recordFormed n r = slotsFormed n (r .kind) (r .slots)

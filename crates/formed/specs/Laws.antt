@@ -1,0 +1,194 @@
+-- A well-formed record, clause by clause; and that coming to the front, keeping a part and freeing leave it well formed.
+use Prim.Native.Nat.{ℕ, zero, suc, _+_, _-_, _≤_, _<_}
+use mathlib.Core.Path.{_≡_, refl, sym, ap, _∙_}
+use mathlib.Core.Bool.{Bool, true, false, not, cond, _&&_, _||_}
+use mathlib.Core.List.{List}
+use native.Mathlib.Omega.{arith}
+use lib.ListN.{length, getD, set, replicate, length-replicate, getD-replicate}
+use lib.Seq.{getD-set-same, getD-set-other}
+use lib.Dec.{eqb, ltb, leb}
+use borrow.Author.Tests.{eqb-true, eq-eqb, ne-eqb, ltb-true, ltb-false, lt-ltb, leb-true, not-true}
+use Rattle.octets.specs.Tests.{clash, both, neither, Same, same, other, same?}
+use Rattle.packet.specs.declared.Kind.{Kind}
+use Rattle.arrival.specs.declared.Key.{Key}
+use Rattle.arrival.specs.Message.{mostParts}
+use Rattle.arrival.specs.Keys.{keyFormed, totalFits, lengthFits}
+use Rattle.slots.specs.declared.Slot.{Slot}
+use Rattle.slots.specs.Below.{allBelow, anyBelow, countBelow}
+use Rattle.slots.specs.BelowLaws.{all-at, all-hold, count-zero}
+use Rattle.slots.specs.Slots.{slotAt, freeSlot, opened, used, sameKey, heldAt, withPart, atRank, aged, closed, toFront, freed}
+use Rattle.formed.specs.Formed as rule
+use Rattle.formed.specs.Formed.{markAt, sizeAt, partFormed, heldCount, usedFormed, allZero, slotFormed, keysDiffer, ranked, slotsFormed}
+use Rattle.slots.specs.RankLaws.{Ranked, pos-taken, aged-taken, closed-taken, front-ranked, free-ranked}
+use Rattle.slots.specs.FrontLaws.{front-here, front-there, front-length, freed-here, freed-there, freed-length, same-key, key-same}
+
+used-pos : (x : Slot) → 0 < x .rank → used x ≡ true
+used-pos x l = rw (ne-eqb (x .rank) 0 (λ e. omega arith))
+
+-- ---- a used slot
+pub record UsedSlot (k : Kind) (x : Slot) : Type 0 where
+  pub key : keyFormed k (x .key) ≡ true
+  pub total : totalFits (x .key) (x .total) ≡ true
+  pub parts : (i : ℕ) → i < mostParts → partFormed x i ≡ true
+  pub some : 0 < heldCount x
+  pub more : heldCount x < x .total
+  pub lengths : length (x .lengths) ≡ mostParts
+  pub marks : length (x .held) ≡ mostParts
+
+pub slot-tells : (k : Kind) (x : Slot) → slotFormed k x ≡ true → 0 < x .rank → UsedSlot k x
+unfolding slotFormed usedFormed
+slot-tells k x e u =
+    let (s, f) = both (rule.sixteen x) (cond (used x) (usedFormed k x) (allZero x)) e in
+    let (l, m) = both (eqb (length (x .lengths)) mostParts) (eqb (length (x .held)) mostParts) s in
+    let g : usedFormed k x ≡ true = simp (used-pos x u) at f in
+    let (e₃, h₄) = both (keyFormed k (x .key) && totalFits (x .key) (x .total) && allBelow mostParts (partFormed x) && ltb 0 (heldCount x)) (ltb (heldCount x) (x .total)) g in
+    let (e₂, h₃) = both (keyFormed k (x .key) && totalFits (x .key) (x .total) && allBelow mostParts (partFormed x)) (ltb 0 (heldCount x)) e₃ in
+    let (e₁, h₂) = both (keyFormed k (x .key) && totalFits (x .key) (x .total)) (allBelow mostParts (partFormed x)) e₂ in
+    let (h₀, h₁) = both (keyFormed k (x .key)) (totalFits (x .key) (x .total)) e₁ in
+    record {
+      key = h₀;
+      total = h₁;
+      parts = all-at mostParts (partFormed x) h₂;
+      some = ltb-true 0 (heldCount x) h₃;
+      more = ltb-true (heldCount x) (x .total) h₄;
+      lengths = eqb-true (length (x .lengths)) mostParts l;
+      marks = eqb-true (length (x .held)) mostParts m;
+    }
+
+pub slot-told : (k : Kind) (x : Slot) → 0 < x .rank → UsedSlot k x → slotFormed k x ≡ true
+unfolding slotFormed usedFormed
+slot-told k x u w =
+    rw (eq-eqb (length (x .lengths)) mostParts (w .lengths), eq-eqb (length (x .held)) mostParts (w .marks), used-pos x u, w .key, w .total, all-hold mostParts (partFormed x) (w .parts), lt-ltb 0 (heldCount x) (w .some), lt-ltb (heldCount x) (x .total) (w .more))
+
+-- at the front, whatever its rank was
+pub slot-front : (k : Kind) (x : Slot) → UsedSlot k x → slotFormed k (atRank 1 x) ≡ true
+slot-front k x w =
+    slot-told k (atRank 1 x) (omega arith)
+    (record { key = w .key; total = w .total; parts = w .parts; some = w .some; more = w .more; lengths = w .lengths; marks = w .marks })
+
+-- ---- the record
+pub record Formed (n : ℕ) (k : Kind) (xs : List Slot) : Type 0 where
+  pub size : length xs ≡ n
+  pub slots : (i : ℕ) → i < n → slotFormed k (slotAt xs i) ≡ true
+  pub keys : (i j : ℕ) → i < n → j < n → 0 < slotAt xs i .rank → 0 < slotAt xs j .rank → slotAt xs i .key ≡ slotAt xs j .key → i ≡ j
+  pub ranks : Ranked n (λ i. slotAt xs i .rank)
+
+pub formed-tells : (n : ℕ) (k : Kind) (xs : List Slot) → slotsFormed n k xs ≡ true → Formed n k xs
+unfolding slotsFormed keysDiffer ranked
+formed-tells n k xs e =
+    let (e₂, h₃) = both (eqb (length xs) n && allBelow n (λ i. slotFormed k (slotAt xs i)) && keysDiffer n xs) (ranked n xs) e in
+    let (e₁, h₂) = both (eqb (length xs) n && allBelow n (λ i. slotFormed k (slotAt xs i))) (keysDiffer n xs) e₂ in
+    let (h₀, h₁) = both (eqb (length xs) n) (allBelow n (λ i. slotFormed k (slotAt xs i))) e₁ in
+    record {
+      size = eqb-true (length xs) n h₀;
+      slots = all-at n (λ i. slotFormed k (slotAt xs i)) h₁;
+      keys = λ i j l m u v q. go h₂ i j l m u v q (ltb j i) refl (ltb i j) refl;
+      ranks = h₃;
+    }
+  where
+    -- a later slot with the key of an earlier one
+    apart : keysDiffer n xs ≡ true → (i j : ℕ) → i < n → j < i → 0 < slotAt xs i .rank → 0 < slotAt xs j .rank → slotAt xs i .key ≡ slotAt xs j .key → ⊥
+    apart h i j l m u v q =
+        let a : not (rule.clash xs i j) ≡ true = all-at i (λ j. not (rule.clash xs i j)) (all-at n (λ i. allBelow i (λ j. not (rule.clash xs i j))) h i l) j m in
+        clash (rule.clash xs i j) (rw (used-pos (slotAt xs i) u, used-pos (slotAt xs j) v, key-same (slotAt xs i .key) (slotAt xs j .key) q)) (not-true (rule.clash xs i j) a)
+
+    go : keysDiffer n xs ≡ true → (i j : ℕ) → i < n → j < n → 0 < slotAt xs i .rank → 0 < slotAt xs j .rank → slotAt xs i .key ≡ slotAt xs j .key
+        → (a : Bool) → ltb j i ≡ a → (b : Bool) → ltb i j ≡ b → i ≡ j
+    go h i j l m u v q true p b r = absurd (apart h i j l (ltb-true j i p) u v q)
+    go h i j l m u v q false p true r = absurd (apart h j i m (ltb-true i j r) v u (sym q))
+    go h i j l m u v q false p false r = omega (arith, ltb-false j i p, ltb-false i j r)
+
+pub formed-told : (n : ℕ) (k : Kind) (xs : List Slot) → Formed n k xs → slotsFormed n k xs ≡ true
+unfolding slotsFormed keysDiffer ranked
+formed-told n k xs w =
+    rw (eq-eqb (length xs) n (w .size), all-hold n (λ i. slotFormed k (slotAt xs i)) (w .slots), all-hold n (λ i. allBelow i (λ j. not (rule.clash xs i j))) (λ i l. all-hold i (λ j. not (rule.clash xs i j)) (λ j m. differ i j l m (rule.clash xs i j) refl))) (w .ranks)
+  where
+    differ : (i j : ℕ) → i < n → j < i → (b : Bool) → rule.clash xs i j ≡ b → not b ≡ true
+    differ i j l m false e = refl
+    differ i j l m true e =
+        let (u, q) = both (used (slotAt xs i) && used (slotAt xs j)) (sameKey (slotAt xs i .key) (slotAt xs j .key)) e in
+        let (a, b) = both (used (slotAt xs i)) (used (slotAt xs j)) u in
+        let z : i ≡ j = w .keys i j l (omega arith) (pos-taken (slotAt xs i .rank) a) (pos-taken (slotAt xs j .rank) b) (same-key (slotAt xs i .key) (slotAt xs j .key) q) in
+        absurd (omega arith)
+
+-- ---- a free slot, and a fresh record
+pub free-slot-formed : (k : Kind) → slotFormed k freeSlot ≡ true
+unfolding slotFormed allZero allBelow
+free-slot-formed k = refl
+
+pub fresh-formed : (n : ℕ) (k : Kind) → Formed n k (replicate n freeSlot)
+fresh-formed n k = record {
+  size = length-replicate n freeSlot;
+  slots = λ i l. rw (free i l) (free-slot-formed k);
+  keys = λ i j l m u v q. absurd (omega (arith, ap (λ (x : Slot). x .rank) (free i l)));
+  ranks = all-hold (countBelow n (λ i. used (slotAt (replicate n freeSlot) i))) _ (λ r l. absurd (omega (arith, none)));
+}
+  where
+    free : (i : ℕ) → i < n → slotAt (replicate n freeSlot) i ≡ freeSlot
+    free i l = getD-replicate n i freeSlot _ l
+
+    none : countBelow n (λ i. used (slotAt (replicate n freeSlot) i)) ≡ 0
+    none = count-zero n (λ i. used (slotAt (replicate n freeSlot) i)) (λ i l. rw (free i l))
+
+-- ---- another rank
+pub rank-formed : (k : Kind) (x : Slot) (q : ℕ) → not (eqb q 0) ≡ used x → slotFormed k (atRank q x) ≡ slotFormed k x
+unfolding slotFormed usedFormed allZero
+rank-formed k x q e = rw e
+
+-- Slot i is another, and each other slot keeps all but its rank: the record stays well formed where slot i is, its key is nobody else's, and
+-- the ranks have no gap.
+module _ (n : ℕ) (k : Kind) (xs : List Slot) (w : Formed n k xs) (i : ℕ) (inside : i < n) where
+  module _ (ys : List Slot) (size : length ys ≡ length xs) (g : ℕ → ℕ) (same-used : (q : ℕ) → not (eqb (g q) 0) ≡ not (eqb q 0))
+      (there : (j : ℕ) → (j ≡ i → ⊥) → slotAt ys j ≡ atRank (g (slotAt xs j .rank)) (slotAt xs j)) where
+    slot-there : slotFormed k (slotAt ys i) ≡ true → (j : ℕ) → j < n → Same j i → slotFormed k (slotAt ys j) ≡ true
+    slot-there ok j l (same e p) = rw p ok
+    slot-there ok j l (other e p) = rw (there j p) (rank-formed k (slotAt xs j) (g (slotAt xs j .rank)) (same-used (slotAt xs j .rank)) ∙ w .slots j l)
+
+    was-used : (j : ℕ) → (j ≡ i → ⊥) → 0 < slotAt ys j .rank → 0 < slotAt xs j .rank
+    was-used j ne u =
+        pos-taken (slotAt xs j .rank) (sym (same-used (slotAt xs j .rank)) ∙ ap (λ (y : Slot). used y) (sym (there j ne)) ∙ used-pos (slotAt ys j) u)
+
+    key-was : (j : ℕ) → (j ≡ i → ⊥) → slotAt ys j .key ≡ slotAt xs j .key
+    key-was j ne = ap (λ (y : Slot). y .key) (there j ne)
+
+    moved-formed : slotFormed k (slotAt ys i) ≡ true
+        → ((j : ℕ) → j < n → (j ≡ i → ⊥) → 0 < slotAt ys i .rank → 0 < slotAt xs j .rank → slotAt xs j .key ≡ slotAt ys i .key → ⊥)
+        → Ranked n (λ j. slotAt ys j .rank) → Formed n k ys
+    moved-formed ok alone ranks = record {
+      size = size ∙ w .size;
+      slots = λ j l. slot-there ok j l (same? j i);
+      keys = λ j m l l′ u v q. go j m l l′ u v q (same? j i) (same? m i);
+      ranks = ranks;
+    }
+      where
+        not-here : (j m : ℕ) → j < n → 0 < slotAt ys j .rank → 0 < slotAt ys m .rank → slotAt ys j .key ≡ slotAt ys m .key → (j ≡ i → ⊥) → m ≡ i → ⊥
+        not-here j m l u v q ne p =
+            alone j l ne (omega (arith, ap (λ (o : ℕ). slotAt ys o .rank) p)) (was-used j ne u) (sym (key-was j ne) ∙ q ∙ ap (λ (o : ℕ). slotAt ys o .key) p)
+
+        go : (j m : ℕ) → j < n → m < n → 0 < slotAt ys j .rank → 0 < slotAt ys m .rank → slotAt ys j .key ≡ slotAt ys m .key → Same j i → Same m i → j ≡ m
+        go j m l l′ u v q (same e p) (same f g) = p ∙ sym g
+        go j m l l′ u v q (same e p) (other f g) = absurd (not-here m j l′ v u (sym q) g p)
+        go j m l l′ u v q (other e p) (same f g) = absurd (not-here j m l u v q p g)
+        go j m l l′ u v q (other e p) (other f g) = w .keys j m l l′ (was-used j p u) (was-used m g v) (sym (key-was j p) ∙ q ∙ key-was m g)
+
+  -- slot i comes to the front as x, whose key no other slot has
+  pub front-formed : (x : Slot) → slotFormed k (atRank 1 x) ≡ true
+      → ((j : ℕ) → j < n → (j ≡ i → ⊥) → 0 < slotAt xs j .rank → slotAt xs j .key ≡ x .key → ⊥) → Formed n k (toFront xs i x)
+  front-formed x ok alone =
+      let here : slotAt (toFront xs i x) i ≡ atRank 1 x = front-here xs i x (omega (arith, w .size)) in
+      moved-formed (toFront xs i x) (front-length xs i x) (aged (slotAt xs i .rank)) (aged-taken (slotAt xs i .rank)) (front-there xs i x)
+      (rw here ok)
+      (λ j l ne u v q. alone j l ne v (q ∙ ap (λ (y : Slot). y .key) here))
+      (front-ranked n (λ j. slotAt xs j .rank) (w .ranks) i inside (λ j. slotAt (toFront xs i x) j .rank) (ap (λ (y : Slot). y .rank) here)
+      (λ j l ne. ap (λ (y : Slot). y .rank) (front-there xs i x j ne)))
+
+  -- slot i is freed
+  pub free-formed : 0 < slotAt xs i .rank → Formed n k (freed xs i)
+  free-formed taken =
+      let here : slotAt (freed xs i) i ≡ freeSlot = freed-here xs i (omega (arith, w .size)) in
+      let gone : slotAt (freed xs i) i .rank ≡ 0 = ap (λ (y : Slot). y .rank) here in
+      moved-formed (freed xs i) (freed-length xs i) (closed (slotAt xs i .rank)) (λ q. closed-taken (slotAt xs i .rank) q taken) (freed-there xs i)
+      (rw here (free-slot-formed k))
+      (λ j l ne u v q. omega arith)
+      (free-ranked n (λ j. slotAt xs j .rank) (w .ranks) i inside (λ j. slotAt (freed xs i) j .rank) taken gone
+      (λ j l ne. ap (λ (y : Slot). y .rank) (freed-there xs i j ne)))

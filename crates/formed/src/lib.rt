@@ -1,0 +1,298 @@
+// Which records are well formed (01, "Numbers"): one function for each test of the rules, in their order, and one loop for each test that goes
+// over the parts of a slot or over the slots.
+use arrival::Key;
+use packet::Kind;
+use slots::PARTS;
+use slots::Record;
+use slots::SLOTS;
+use slots::Slot;
+use slots::find::same_key;
+ghost use mathlib.Core.Path.{_≡_};
+ghost use mathlib.Core.Bool.{cond};
+ghost use Prim.Native.Nat.{_≤_, _<_};
+ghost use lib.ListN.{length};
+ghost use Rattle.arrival.specs.Message.{mostParts};
+ghost use Rattle.arrival.specs.Page.{noPages};
+ghost use Rattle.arrival.specs.Keys.{messageKeyFormed, pageKeyFormed, keyFormed, totalFits, room, lengthFits};
+ghost use Rattle.slots.specs.Below.{allBelow};
+ghost use Rattle.slots.specs.Slots.{slotCount};
+ghost use Rattle.formed.specs.Formed.{zeroKey, zeroPart, allZero, partFormed, heldCount, usedFormed, slotFormed, keysDiffer, usedCount, isRank, ranked, recordFormed};
+ghost use Rattle.formed.specs.Pieces.{partFits, slotsHold, keyDiffers};
+
+// A flag as a number, to count it.
+fn one(flag: bool) -> u8
+    ensures { λ r. ⌜ (r ≡ cond flag 1 0) × (r ≤ 1) ⌝ }
+{
+    if flag { 1 } else { 0 }
+}
+
+// Whether records of the kind hold no page series.
+fn no_pages(kind: Kind) -> bool
+    ensures { λ r. ⌜ r ≡ noPages kind ⌝ }
+{
+    match kind {
+        Kind::Command => false,
+        Kind::Response => true,
+    }
+}
+
+// Whether a key with a width is one of a short message: its reference fits the width, and what only pages have is zero.
+fn message_key_formed(key: Key) -> bool
+    ensures { λ r. ⌜ r ≡ messageKeyFormed key ⌝ }
+{
+    (((key.width == 8) & (key.reference < 256))
+        | ((key.width == 16) & ((key.reference as u32) < 65536)))
+        & (key.serial.0 == 0)
+        & (key.identifier.0 == 0)
+}
+
+// Whether a key without a width is one of pages, in a record of that kind.
+fn page_key_formed(kind: Kind, key: Key) -> bool
+    ensures { λ r. ⌜ r ≡ pageKeyFormed kind key ⌝ }
+{
+    let none = no_pages(kind);
+    let id = key.identifier.0;
+    !none & (key.sender == 0) & (key.reference == 0) & ((0x1080 <= id) & (id <= 0x109F))
+}
+
+// Whether a key is one that reading gives for a record of that kind.
+fn key_formed(kind: Kind, key: Key) -> bool
+    ensures { λ r. ⌜ r ≡ keyFormed kind key ⌝ }
+{
+    if key.width == 0 {
+        return page_key_formed(kind, key);
+    }
+    message_key_formed(key)
+}
+
+// Whether a series with that key can have that total.
+fn total_fits(key: Key, total: u8) -> bool
+    ensures { λ r. ⌜ r ≡ totalFits key total ⌝ }
+{
+    if key.width == 0 {
+        return (2 <= total) & (total <= 15);
+    }
+    (2 <= total) & (total <= PARTS as u8)
+}
+
+// The most octets of part `number` of a short message: the wider reference takes one, and in part 1 the packet identifier two.
+fn room(width: u8, number: usize) -> u8
+    ensures { λ r. ⌜ r ≡ room width number ⌝ }
+{
+    if width == 16 {
+        if number == 1 {
+            return 131;
+        }
+        return 133;
+    }
+    if number == 1 {
+        return 132;
+    }
+    134
+}
+
+// Whether part `number` of a series with that key can have n octets.
+fn length_fits(key: Key, number: usize, n: u8) -> bool
+    ensures { λ r. ⌜ r ≡ lengthFits key number n ⌝ }
+{
+    if key.width == 0 {
+        return n == 82;
+    }
+    let most = room(key.width, number);
+    n <= most
+}
+
+// Whether a free slot's key is all zero.
+fn zero_key(key: Key) -> bool
+    ensures { λ r. ⌜ r ≡ zeroKey key ⌝ }
+{
+    (key.sender == 0)
+        & (key.width == 0)
+        & (key.reference == 0)
+        & (key.serial.0 == 0)
+        & (key.identifier.0 == 0)
+}
+
+// Whether no part of the slot is marked or has a length.
+fn zero_parts(x: Slot) -> bool
+    ensures { λ r. ⌜ r ≡ allBelow mostParts (zeroPart x) ⌝ }
+{
+    let mut ok = true;
+    let mut i = 0;
+    while i < PARTS {
+        let h = x.held[i];
+        let n = x.lengths[i];
+        ok = ok & (!h & (n == 0));
+        i = i + 1;
+    }
+    ok
+}
+
+// Whether all of the slot but its rank is zero.
+fn all_zero(x: Slot) -> bool
+    ensures { λ r. ⌜ r ≡ allZero x ⌝ }
+{
+    let key = x.key;
+    let none = zero_parts(x);
+    zero_key(key) & (x.total == 0) & none
+}
+
+// Whether the part at place i, of n octets where it is held, can stand in a slot with that key and total.
+fn part_formed(key: Key, total: u8, i: usize, n: u8, held: bool) -> bool
+    requires { ⌜ i < mostParts ⌝ }
+    ensures { λ r. ⌜ r ≡ partFits key total i n held ⌝ }
+{
+    if held {
+        let fits = length_fits(key, i + 1, n);
+        return (i < total as usize) & fits;
+    }
+    n == 0
+}
+
+// Whether each part of a used slot is as it can be.
+fn parts_formed(x: Slot) -> bool
+    ensures { λ r. ⌜ r ≡ allBelow mostParts (partFormed x) ⌝ }
+{
+    let key = x.key;
+    let mut ok = true;
+    let mut i = 0;
+    while i < PARTS {
+        let h = x.held[i];
+        let n = x.lengths[i];
+        ok = ok & part_formed(key, x.total, i, n, h);
+        i = i + 1;
+    }
+    ok
+}
+
+// How many parts the slot holds.
+fn held_count(x: Slot) -> u8
+    ensures { λ r. ⌜ r ≡ heldCount x ⌝ }
+{
+    let mut m = 0;
+    let mut i = 0;
+    while i < PARTS {
+        let h = x.held[i];
+        m = m + one(h);
+        i = i + 1;
+    }
+    m
+}
+
+// Whether a used slot is well formed: key, total and parts, at least one held and not all.
+fn used_formed(kind: Kind, x: Slot) -> bool
+    ensures { λ r. ⌜ r ≡ usedFormed kind x ⌝ }
+{
+    let key = x.key;
+    let total = x.total;
+    let m = held_count(x);
+    let parts = parts_formed(x);
+    key_formed(kind, key) & total_fits(key, total) & parts & (0 < m) & (m < total)
+}
+
+// Whether a slot is well formed, used or free.
+fn slot_formed(kind: Kind, x: Slot) -> bool
+    ensures { λ r. ⌜ r ≡ slotFormed kind x ⌝ }
+{
+    if x.rank == 0 {
+        return all_zero(x);
+    }
+    used_formed(kind, x)
+}
+
+// Whether each slot is well formed. A record has as many as its type says.
+fn slots_formed(state: Record) -> bool
+    ensures { λ r. ⌜ (r ≡ slotsHold slotCount (state .kind) (state .slots)) × (length (state .slots) ≡ slotCount) ⌝ }
+{
+    let kind = state.kind;
+    let mut ok = true;
+    let mut i = 0;
+    while i < SLOTS {
+        let x = state.slots[i];
+        ok = ok & slot_formed(kind, x);
+        i = i + 1;
+    }
+    ok
+}
+
+// Whether the key of slot i is no used slot's before it.
+fn key_differs(state: Record, i: usize) -> bool
+    requires { ⌜ i < slotCount ⌝ }
+    ensures { λ r. ⌜ r ≡ keyDiffers (state .slots) i ⌝ }
+{
+    let x = state.slots[i];
+    let key = x.key;
+    let used = x.rank != 0;
+    let mut ok = true;
+    let mut j = 0;
+    while j < i {
+        let y = state.slots[j];
+        let other = y.key;
+        let same = same_key(key, other);
+        ok = ok & !(used & (y.rank != 0) & same);
+        j = j + 1;
+    }
+    ok
+}
+
+// Whether no two used slots have one key.
+fn keys_differ(state: Record) -> bool
+    ensures { λ r. ⌜ r ≡ keysDiffer slotCount (state .slots) ⌝ }
+{
+    let mut ok = true;
+    let mut i = 0;
+    while i < SLOTS {
+        ok = ok & key_differs(state, i);
+        i = i + 1;
+    }
+    ok
+}
+
+// How many slots are used.
+fn used_count(state: Record) -> u8
+    ensures { λ r. ⌜ (r ≡ usedCount slotCount (state .slots)) × (r ≤ slotCount) ⌝ }
+{
+    let mut m = 0;
+    let mut i = 0;
+    while i < SLOTS {
+        let x = state.slots[i];
+        m = m + one(x.rank != 0);
+        i = i + 1;
+    }
+    m
+}
+
+// Whether a slot has the rank r.
+fn is_rank(state: Record, r: u8) -> bool
+    ensures { λ b. ⌜ b ≡ isRank slotCount (state .slots) r ⌝ }
+{
+    let mut any = false;
+    let mut i = 0;
+    while i < SLOTS {
+        let x = state.slots[i];
+        any = any | (x.rank == r);
+        i = i + 1;
+    }
+    any
+}
+
+// Whether the used slots are ranked 1, 2, .. without a gap.
+fn ranked(state: Record) -> bool
+    ensures { λ r. ⌜ r ≡ ranked slotCount (state .slots) ⌝ }
+{
+    let m = used_count(state);
+    let mut ok = true;
+    let mut r = 0;
+    while r < m {
+        ok = ok & is_rank(state, r + 1);
+        r = r + 1;
+    }
+    ok
+}
+
+// Whether the library can have made the record.
+pub fn record_formed(state: Record) -> bool
+    ensures { λ r. ⌜ r ≡ recordFormed slotCount state ⌝ }
+{
+    slots_formed(state) & keys_differ(state) & ranked(state)
+}

@@ -1,0 +1,78 @@
+-- How a header is read, one element after the other: what the walk's own contracts cite. `Laws.antt` shows that it comes to the rules of
+-- `Header.antt`.
+use Prim.Native.Nat.{ℕ, _+_}
+use mathlib.Core.List.{List, [], _∷_}
+use mathlib.Core.Bool.{Bool, true, false, not, cond, _||_}
+use mathlib.Core.Option.{Option, none, some}
+use lib.ListN.{length, getD, drop}
+use lib.Dec.{eqb, leb}
+use Rattle.octets.specs.Octets.{numberOf}
+use Rattle.header.specs.declared.Concatenation.{Concatenation}
+use Rattle.header.specs.declared.Seen.{Seen}
+use Rattle.header.specs.declared.Element.{Element}
+use Rattle.header.specs.declared.Element.the-variants as element
+use Rattle.header.specs.declared.Walked.{Walked}
+use Rattle.header.specs.declared.Walked.the-variants as whole
+use Rattle.header.specs.Header.{Item, elements, has, isConcatenation, wrongLength, concatenationIn, noConcatenation}
+
+-- the element that stands first in octets that begin at the place i
+unfoldable pub firstElement : ℕ → List ℕ → Element
+firstElement i [] = element.Past
+firstElement i (a ∷ []) = element.Past
+firstElement i (a ∷ n ∷ r) = cond (leb n (length r)) (element.Read a (i + 2) n (record { at = i + 2 + n })) element.Past
+
+-- the two forms of a concatenation element
+abbrev pub narrowIn : List ℕ → Concatenation
+narrowIn o = record { width = 8; reference = getD o 0 0; total = getD o 1 0; number = getD o 2 0 }
+
+abbrev pub wideIn : List ℕ → Concatenation
+wideIn o = record { width = 16; reference = numberOf (getD o 0 0) (getD o 1 0); total = getD o 2 0; number = getD o 3 0 }
+
+-- ---- what was seen, and an element more
+abbrev pub nothingSeen : Seen
+nothingSeen = record { wrong = false; twice = false; concatenation = noConcatenation; command = false; response = false }
+
+abbrev pub wrongSeen : Seen → Seen
+wrongSeen s = record { wrong = true; twice = s .twice; concatenation = s .concatenation; command = s .command; response = s .response }
+
+-- a concatenation has a width, so a width tells that there was one
+abbrev pub told : Seen → Bool
+told s = not (eqb (s .concatenation .width) 0)
+
+abbrev pub concatenationSeen : Seen → Concatenation → Seen
+concatenationSeen s c = record { wrong = s .wrong; twice = told s || s .twice; concatenation = c; command = s .command; response = s .response }
+
+abbrev pub commandSeen : Seen → Seen
+commandSeen s = record { wrong = s .wrong; twice = s .command || s .twice; concatenation = s .concatenation; command = true; response = s .response }
+
+abbrev pub responseSeen : Seen → Seen
+responseSeen s = record { wrong = s .wrong; twice = s .response || s .twice; concatenation = s .concatenation; command = s .command; response = true }
+
+-- whether an element repeats what was seen
+abbrev pub repeats : Seen → Item → Bool
+repeats s e = cond (isConcatenation e) (told s) (cond (has 0x70 e) (s .command) (cond (has 0x71 e) (s .response) false))
+
+abbrev pub noted : Seen → Item → Seen
+noted s e = record {
+  wrong = s .wrong;
+  twice = repeats s e || s .twice;
+  concatenation = cond (isConcatenation e) (concatenationIn e) (s .concatenation);
+  command = has 0x70 e || s .command;
+  response = has 0x71 e || s .response;
+}
+
+-- Of an element of wrong length nothing else is noted, since it is refused whatever else there is.
+unfoldable pub added : Seen → Item → Seen
+added s e = cond (wrongLength e) (wrongSeen s) (noted s e)
+
+abbrev pub seenAfter : Seen → List Item → Seen
+seenAfter s [] = s
+seenAfter s (e ∷ es) = seenAfter (added s e) es
+
+-- what the elements from a place on come to, on top of what was seen
+abbrev pub collected : Seen → Option (List Item) → Walked
+collected s none = whole.Past
+collected s (some es) = whole.Header (seenAfter s es)
+
+abbrev pub walked : List ℕ → ℕ → Seen → Walked
+walked h at s = collected s (elements (drop at h))

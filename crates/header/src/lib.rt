@@ -1,0 +1,217 @@
+// The user data header (01, "User data header"): one element is read and then the rest in the same way, and what counts is noted on the way.
+ghost use mathlib.Core.Path.{_≡_};
+ghost use lib.ListN.{length, drop};
+ghost use Rattle.header.specs.Header.{item};
+ghost use Rattle.header.specs.Reading.{firstElement, narrowIn, wideIn, nothingSeen, wrongSeen, concatenationSeen, commandSeen, responseSeen, added, walked};
+
+// What a concatenation element says: the width of its reference in bits, the reference, how many parts there are and which this is.
+pub struct Concatenation {
+    pub width: u8,
+    pub reference: u16,
+    pub total: u8,
+    pub number: u8,
+}
+
+// What the elements of a header say together.
+pub struct Seen {
+    // an element that counts is of wrong length
+    pub wrong: bool,
+    // a concatenation element, or the same packet identifier, was given twice
+    pub twice: bool,
+    pub concatenation: Concatenation,
+    // the packet identifier of commands is there, and that of responses
+    pub command: bool,
+    pub response: bool,
+}
+
+// A reading position in a header.
+pub struct Cursor {
+    pub at: usize,
+}
+
+// What stands at a reading position.
+pub enum Element {
+    // A whole element: its identifier, where its octets start and how many they are; next is past it.
+    Read {
+        id: u8,
+        start: usize,
+        len: usize,
+        next: Cursor,
+    },
+    // A lone identifier, or octets that run past the header's end.
+    Past,
+}
+
+// What a header comes to.
+pub enum Walked {
+    Header(Seen),
+    Past,
+}
+
+impl Cursor {
+    // The element at the reading position, and the position behind it. A lone identifier runs past the end as an element does whose octets are
+    // not all there.
+    pub fn element(self, h: &[u8]) -> Element
+        ensures { λ r. ⌜ r ≡ firstElement (self .at) (drop (self .at) (now (h .entry))) ⌝ }
+    {
+        let at = self.at;
+        if h.len() <= at {
+            return Element::Past;
+        }
+        let second = at + 1;
+        if h.len() <= second {
+            return Element::Past;
+        }
+        let id = h[at];
+        let len = h[second] as usize;
+        let start = at + 2;
+        if h.len() - start < len {
+            return Element::Past;
+        }
+        Element::Read {
+            id,
+            start,
+            len,
+            next: Cursor { at: start + len },
+        }
+    }
+}
+
+// What an octet of reference says, and two octets of it, with the total and the number behind.
+fn narrow(own: &[u8]) -> Concatenation
+    requires { ⌜ length (now own) ≡ 3 ⌝ }
+    ensures { λ r. ⌜ r ≡ narrowIn (now (own .entry)) ⌝ }
+{
+    Concatenation {
+        width: 8,
+        reference: own[0] as u16,
+        total: own[1],
+        number: own[2],
+    }
+}
+
+fn wide(own: &[u8]) -> Concatenation
+    requires { ⌜ length (now own) ≡ 4 ⌝ }
+    ensures { λ r. ⌜ r ≡ wideIn (now (own .entry)) ⌝ }
+{
+    Concatenation {
+        width: 16,
+        reference: octets::number_of(own[0], own[1]),
+        total: own[2],
+        number: own[3],
+    }
+}
+
+impl Seen {
+    // What is known of a header before its first element.
+    pub fn nothing() -> Self
+        ensures { λ r. ⌜ r ≡ nothingSeen ⌝ }
+    {
+        Seen {
+            wrong: false,
+            twice: false,
+            concatenation: Concatenation {
+                width: 0,
+                reference: 0,
+                total: 0,
+                number: 0,
+            },
+            command: false,
+            response: false,
+        }
+    }
+
+    // An element that counts is of wrong length: nothing else of it is noted, since the header is refused.
+    fn misfit(mut self) -> Self
+        ensures { λ r. ⌜ r ≡ wrongSeen self ⌝ }
+    {
+        self.wrong = true;
+        self
+    }
+
+    // A concatenation element: a width that is not 0 tells that there was one before.
+    fn concatenated(mut self, c: Concatenation) -> Self
+        ensures { λ r. ⌜ r ≡ concatenationSeen self c ⌝ }
+    {
+        let width = self.concatenation.width;
+        self.twice = (width != 0) | self.twice;
+        self.concatenation = c;
+        self
+    }
+
+    // The packet identifier of commands, and that of responses.
+    fn commanded(mut self) -> Self
+        ensures { λ r. ⌜ r ≡ commandSeen self ⌝ }
+    {
+        self.twice = self.command | self.twice;
+        self.command = true;
+        self
+    }
+
+    fn responded(mut self) -> Self
+        ensures { λ r. ⌜ r ≡ responseSeen self ⌝ }
+    {
+        self.twice = self.response | self.twice;
+        self.response = true;
+        self
+    }
+
+    // One more element, with the octets that are its own. Any identifier but four is skipped.
+    pub fn plus(self, id: u8, own: &[u8]) -> Self
+        ensures { λ r. ⌜ r ≡ added self (item id (now (own .entry))) ⌝ }
+    {
+        let n = own.len();
+        match id {
+            0x00 => {
+                if n == 3 {
+                    self.concatenated(narrow(own))
+                } else {
+                    self.misfit()
+                }
+            }
+            0x08 => {
+                if n == 4 {
+                    self.concatenated(wide(own))
+                } else {
+                    self.misfit()
+                }
+            }
+            0x70 => {
+                if n == 0 {
+                    self.commanded()
+                } else {
+                    self.misfit()
+                }
+            }
+            0x71 => {
+                if n == 0 {
+                    self.responded()
+                } else {
+                    self.misfit()
+                }
+            }
+            _ => self,
+        }
+    }
+}
+
+// The element at the cursor, and then the rest of the header in the same way: what they say together, on top of what was seen before.
+pub fn walk(h: &[u8], cursor: Cursor, seen: Seen) -> Walked
+    ensures { λ r. ⌜ r ≡ walked (now (h .entry)) (cursor .at) seen ⌝ }
+{
+    let at = cursor.at;
+    if h.len() <= at {
+        return Walked::Header(seen);
+    }
+    let Element::Read {
+        id,
+        start,
+        len,
+        next,
+    } = cursor.element(h)
+    else {
+        return Walked::Past;
+    };
+    let end = start + len;
+    walk(h, next, seen.plus(id, &h[start..end]))
+}
