@@ -1,5 +1,4 @@
 // Lines on building: the fields of a packet, and the packet that they make.
-use lines::Name;
 use lines::OCTETS;
 use lines::Said;
 use lines::texts;
@@ -11,7 +10,10 @@ use packet::Spi;
 use packet::Tar;
 ghost use Prim.Native.Nat.{_≤_, min};
 ghost use mathlib.Core.Path.{_≡_};
-ghost use Rattle.lines.specs.Texts.{Unsaid};
+ghost use lib.ListN.{take, drop};
+ghost use Rattle.lines.specs.Texts.{Says};
+ghost use Rattle.lines.specs.Heard.{SaidAs};
+ghost use Rattle.build_lines.specs.Lines.{clearIn, tarAt, cntrAt, builtSaid, plainBuilt, cipheredBuilt, plainSaid, cipheredSaid, kindSaid, commandLine, responseLine, buildSaid};
 
 // A header length for the library, which takes 16 bits: a larger one is as wrong as 65,535 is.
 fn narrow(n: u32) -> u16
@@ -21,7 +23,9 @@ fn narrow(n: u32) -> u16
 }
 
 // The first seven octets of a command's fields.
-fn clear_of(head: &[u8; 13]) -> Clear {
+fn clear_of(head: &[u8; 13]) -> Clear
+    ensures { λ r. ⌜ r ≡ clearIn (now (head .entry)) ⌝ }
+{
     Clear {
         spi: Spi(head[0], head[1]),
         kic: head[2],
@@ -31,13 +35,16 @@ fn clear_of(head: &[u8; 13]) -> Clear {
 }
 
 // The first three octets of a response's fields.
-fn tar_of(head: &[u8; 13]) -> Tar {
+fn tar_of(head: &[u8; 13]) -> Tar
+    ensures { λ r. ⌜ r ≡ tarAt (now (head .entry)) 0 ⌝ }
+{
     Tar(head[0], head[1], head[2])
 }
 
 // The counter that begins at a place of a head.
 fn cntr_at(head: &[u8; 13], at: usize) -> Cntr
     requires { ⌜ at ≤ 8 ⌝ }
+    ensures { λ r. ⌜ r ≡ cntrAt (now (head .entry)) at ⌝ }
 {
     Cntr(
         head[at],
@@ -49,13 +56,9 @@ fn cntr_at(head: &[u8; 13], at: usize) -> Cntr
 }
 
 // Builds a plain command: the check field's octets end in the middle, and the data follows them.
-fn plain_command(
-    head: &[u8; 13],
-    octets: &[u8],
-    middle: usize,
-    text: &mut [u8],
-    at: usize,
-) -> usize {
+fn plain_command(head: &[u8; 13], octets: &[u8], middle: usize, text: &mut [u8], at: usize) -> usize
+    ensures { λ r. ⌜ Says (builtSaid (plainBuilt Kind.Command (now (head .entry)) (take middle (now (octets .entry))) (drop middle (now (octets .entry))))) (now (text .entry)) at r (now (text .exit)) ⌝ }
+{
     let check = octets::up_to(octets, middle);
     let data = arrival::own_octets(octets, middle);
     let mut out = [0u8; 2142];
@@ -77,7 +80,9 @@ fn plain_response(
     middle: usize,
     text: &mut [u8],
     at: usize,
-) -> usize {
+) -> usize
+    ensures { λ r. ⌜ Says (builtSaid (plainBuilt Kind.Response (now (head .entry)) (take middle (now (octets .entry))) (drop middle (now (octets .entry))))) (now (text .entry)) at r (now (text .exit)) ⌝ }
+{
     let check = octets::up_to(octets, middle);
     let data = arrival::own_octets(octets, middle);
     let mut out = [0u8; 2142];
@@ -100,7 +105,9 @@ fn ciphered_command(
     opaque: &[u8],
     text: &mut [u8],
     at: usize,
-) -> usize {
+) -> usize
+    ensures { λ r. ⌜ Says (builtSaid (cipheredBuilt Kind.Command (now (head .entry)) header (now (opaque .entry)))) (now (text .entry)) at r (now (text .exit)) ⌝ }
+{
     let mut out = [0u8; 2142];
     let written = build::build_ciphered_command(clear_of(head), header, opaque, &mut out);
     texts::say_written(b"packet", written, &out, text, at)
@@ -113,10 +120,46 @@ fn ciphered_response(
     opaque: &[u8],
     text: &mut [u8],
     at: usize,
-) -> usize {
+) -> usize
+    ensures { λ r. ⌜ Says (builtSaid (cipheredBuilt Kind.Response (now (head .entry)) header (now (opaque .entry)))) (now (text .entry)) at r (now (text .exit)) ⌝ }
+{
     let mut out = [0u8; 2142];
     let written = build::build_ciphered_response(tar_of(head), header, opaque, &mut out);
     texts::say_written(b"packet", written, &out, text, at)
+}
+
+// Builds a plain packet, and a ciphered one, of either kind.
+fn plain(
+    kind: Kind,
+    head: &[u8; 13],
+    octets: &[u8],
+    middle: usize,
+    text: &mut [u8],
+    at: usize,
+) -> usize
+    ensures { λ r. ⌜ Says (builtSaid (plainBuilt kind (now (head .entry)) (take middle (now (octets .entry))) (drop middle (now (octets .entry))))) (now (text .entry)) at r (now (text .exit)) ⌝ }
+{
+    match kind {
+        Kind::Command => plain_command(head, octets, middle, text, at),
+        Kind::Response => plain_response(head, octets, middle, text, at),
+    }
+}
+
+fn ciphered(
+    kind: Kind,
+    head: &[u8; 13],
+    header: u32,
+    opaque: &[u8],
+    text: &mut [u8],
+    at: usize,
+) -> usize
+    ensures { λ r. ⌜ Says (builtSaid (cipheredBuilt kind (now (head .entry)) (min header 65535) (now (opaque .entry)))) (now (text .entry)) at r (now (text .exit)) ⌝ }
+{
+    let length = narrow(header);
+    match kind {
+        Kind::Command => ciphered_command(head, length, opaque, text, at),
+        Kind::Response => ciphered_response(head, length, opaque, text, at),
+    }
 }
 
 // The fixed fields, CHECK and DATA: a plain packet.
@@ -128,7 +171,7 @@ fn build_plain(
     text: &mut [u8],
     at: usize,
 ) -> Said
-    ensures { λ r. ⌜ Unsaid at (now (text .entry)) r (now (text .exit)) ⌝ }
+    ensures { λ r. ⌜ SaidAs (plainSaid kind (now (lengths .entry)) (now (line .entry)) from) at (now (text .entry)) r (now (text .exit)) ⌝ }
 {
     let mut head = [0u8; 13];
     let mut work = [0u8; OCTETS];
@@ -138,22 +181,7 @@ fn build_plain(
         return texts::not_understood(at);
     }
     let end = two.end;
-    match kind {
-        Kind::Command => texts::understood(plain_command(
-            &head,
-            octets::up_to(&work, end),
-            two.middle,
-            text,
-            at,
-        )),
-        Kind::Response => texts::understood(plain_response(
-            &head,
-            octets::up_to(&work, end),
-            two.middle,
-            text,
-            at,
-        )),
-    }
+    texts::understood(plain(kind, &head, octets::up_to(&work, end), two.middle, text, at))
 }
 
 // The fields in the clear, HEADERLENGTH and OPAQUE: a ciphered packet.
@@ -165,7 +193,7 @@ fn build_ciphered(
     text: &mut [u8],
     at: usize,
 ) -> Said
-    ensures { λ r. ⌜ Unsaid at (now (text .entry)) r (now (text .exit)) ⌝ }
+    ensures { λ r. ⌜ SaidAs (cipheredSaid kind (now (lengths .entry)) (now (line .entry)) from) at (now (text .entry)) r (now (text .exit)) ⌝ }
 {
     let mut head = [0u8; 13];
     let mut work = [0u8; OCTETS];
@@ -176,23 +204,7 @@ fn build_ciphered(
         return texts::not_understood(at);
     }
     let n = opaque.count;
-    let length = narrow(header.value);
-    match kind {
-        Kind::Command => texts::understood(ciphered_command(
-            &head,
-            length,
-            octets::up_to(&work, n),
-            text,
-            at,
-        )),
-        Kind::Response => texts::understood(ciphered_response(
-            &head,
-            length,
-            octets::up_to(&work, n),
-            text,
-            at,
-        )),
-    }
+    texts::understood(ciphered(kind, &head, header.value, octets::up_to(&work, n), text, at))
 }
 
 // `plain` or `ciphered`, and the fields of such a packet, whose lengths are given for either.
@@ -205,7 +217,7 @@ fn build_kind(
     text: &mut [u8],
     at: usize,
 ) -> Said
-    ensures { λ r. ⌜ Unsaid at (now (text .entry)) r (now (text .exit)) ⌝ }
+    ensures { λ r. ⌜ SaidAs (kindSaid kind (now (plain .entry)) (now (ciphered .entry)) (now (line .entry)) from) at (now (text .entry)) r (now (text .exit)) ⌝ }
 {
     let mode = words::mode_from(line, from);
     if !mode.understood {
@@ -219,7 +231,7 @@ fn build_kind(
 
 // `build command plain SPI KIC KID TAR CNTR PCNTR CHECK DATA`, `build command ciphered SPI KIC KID TAR HEADERLENGTH OPAQUE`.
 fn build_command_line(line: &[u8], from: usize, text: &mut [u8], at: usize) -> Said
-    ensures { λ r. ⌜ Unsaid at (now (text .entry)) r (now (text .exit)) ⌝ }
+    ensures { λ r. ⌜ SaidAs (commandLine (now (line .entry)) from) at (now (text .entry)) r (now (text .exit)) ⌝ }
 {
     build_kind(
         Kind::Command,
@@ -234,7 +246,7 @@ fn build_command_line(line: &[u8], from: usize, text: &mut [u8], at: usize) -> S
 
 // `build response plain TAR CNTR PCNTR STATUS CHECK DATA`, `build response ciphered TAR HEADERLENGTH OPAQUE`.
 fn build_response_line(line: &[u8], from: usize, text: &mut [u8], at: usize) -> Said
-    ensures { λ r. ⌜ Unsaid at (now (text .entry)) r (now (text .exit)) ⌝ }
+    ensures { λ r. ⌜ SaidAs (responseLine (now (line .entry)) from) at (now (text .entry)) r (now (text .exit)) ⌝ }
 {
     build_kind(
         Kind::Response,
@@ -249,13 +261,17 @@ fn build_response_line(line: &[u8], from: usize, text: &mut [u8], at: usize) -> 
 
 // `build ..`: its kind is the next word.
 pub fn build_line(line: &[u8], from: usize, text: &mut [u8], at: usize) -> Said
-    ensures { λ r. ⌜ Unsaid at (now (text .entry)) r (now (text .exit)) ⌝ }
+    ensures { λ r. ⌜ SaidAs (buildSaid (now (line .entry)) from) at (now (text .entry)) r (now (text .exit)) ⌝ }
 {
-    let kind = words::name_from(line, from);
-    let name = kind.name;
-    match name {
-        Name::Command => build_command_line(line, kind.next, text, at),
-        Name::Response => build_response_line(line, kind.next, text, at),
-        _ => texts::not_understood(at),
+    let word = words::word_from(line, from);
+    let start = word.start;
+    let end = word.end;
+    let what = &line[start..end];
+    if words::is_name(what, b"command") {
+        return build_command_line(line, end, text, at);
     }
+    if words::is_name(what, b"response") {
+        return build_response_line(line, end, text, at);
+    }
+    texts::not_understood(at)
 }

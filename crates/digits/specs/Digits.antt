@@ -1,11 +1,12 @@
 -- Octets and numbers as text: hexadecimal digits, read in either case and written as capitals, two to an octet; decimal numbers.
-use Prim.Native.Nat.{ℕ, _+_, _-_, _*_, _/_, _%_}
+use Prim.Native.Nat.{ℕ, zero, suc, _+_, _-_, _*_, _/_, _%_}
 use mathlib.Core.Bool.{Bool, true, false, not, cond, _&&_}
 use mathlib.Core.List.{List, [], _∷_}
 use mathlib.Core.Option.{Option, none, some}
 use mathlib.Core.Path.{_≡_}
 use lib.Dec.{eqb, leb, ltb}
 use lib.ListN.{length}
+use Rattle.io.specs.Digits.{digits}
 use Rattle.octets.specs.Octets.{placed, fitsAt}
 use Rattle.digits.specs.declared.Number.{Number}
 use Rattle.digits.specs.declared.Octets.{Octets}
@@ -74,6 +75,15 @@ ReadInto none d r room = r ≡ counted none
 ReadInto (some os) d r room = (r ≡ counted (some os)) × (room ≡ placed d 0 os)
 
 -- ---- decimal
+-- how many decimal digits hold n, counted in no more than `steps` steps
+unfoldable pub figuresIn : ℕ → ℕ → ℕ
+figuresIn zero n = 1
+figuresIn (suc steps) n = cond (ltb n 10) 1 (suc (figuresIn steps (n / 10)))
+
+-- the text of a number: as few digits as hold it
+unfoldable pub decimalText : ℕ → List ℕ
+decimalText n = digits 10 (figuresIn n n) n
+
 unfoldable pub allDecimal : List ℕ → Bool
 allDecimal [] = true
 allDecimal (x ∷ w) = between 48 57 x && allDecimal w

@@ -5,7 +5,7 @@ use mathlib.Core.Bool.{Bool, true, false, _&&_, and-true, and-assoc}
 use mathlib.Core.List.{List, [], _∷_, _++_}
 use mathlib.Core.Option.{some}
 use native.Mathlib.Omega.{arith}
-use native.Mathlib.Nat.{pow-suc}
+use native.Mathlib.Nat.{pow-suc, one-le-pow}
 use lib.ListN.{length, getD, length-append}
 use mir.Syntax.{w8}
 use mir.Val.{Fits}
@@ -13,7 +13,7 @@ use lib.Dec.{T, ltb, leb, leb→le, ltb→lt}
 use borrow.Author.Tests.{lt-ltb, ltb-true, ltb-false, le-leb, lt-leb, leb-true, ne-eqb}
 use Rattle.io.specs.Digits.{digits, glyph, Fewest}
 use Rattle.octets.specs.Tests.{both, by-test}
-use Rattle.digits.specs.Digits.{between, digitValue, digitOf, hexText, hexOctets, allDecimal, valueFrom, most, decimalOf}
+use Rattle.digits.specs.Digits.{between, digitValue, digitOf, hexText, hexOctets, allDecimal, valueFrom, most, figuresIn, decimalText, decimalOf}
 
 inside : (low high x : ℕ) → low ≤ x → x ≤ high → between low high x ≡ true
 inside low high x l h = rw (le-leb low x l, le-leb x high h)
@@ -100,3 +100,44 @@ module _ (t : Bool) (low high x : ℕ) (is : t ≡ between low high x) (holds : 
 
   pub sum-fits : (k : ℕ) → T (ltb (high + k) 256) → Fits w8 (x + k)
   sum-fits k l = omega (arith, leb-true x high (both (leb low x) (leb x high) (sym is ∙ holds) .1), ltb→lt (high + k) 256 l)
+
+-- ---- the fewest digits that hold a number are as many as its text has
+tens : (m : ℕ) → 10 ≤ 10 ^ suc m
+tens m = rw pow-suc (omega (arith, one-le-pow m 10 (omega arith)))
+
+fewest-one : (n k : ℕ) → n < 10 → Fewest 10 1 n k → k ≡ 1
+fewest-one n zero l f = absurd (omega (arith, f .0))
+fewest-one n (suc zero) l f = refl
+fewest-one n (suc (suc m)) l f =
+    let e : suc (suc m) - 1 ≡ suc m = omega arith in
+    let h : 10 ^ suc m ≤ n = rw e at (f .2 (omega arith)) in absurd (omega (arith, tens m))
+
+fewest-more : (n m : ℕ) → Fewest 10 1 n (suc (suc m)) → Fewest 10 1 (n / 10) (suc m)
+fewest-more n m f =
+    let e : suc (suc m) - 1 ≡ suc m = omega arith in
+    let d : suc m - 1 ≡ m = omega arith in
+    let less : n < 10 ^ suc m * 10 = rw pow-suc at (f .1) in
+    let more : 10 ^ m * 10 ≤ n = rw pow-suc at (rw e at (f .2 (omega arith))) in
+    (omega arith, omega (arith, less), λ l. rw d (omega (arith, more)))
+
+fewest-figures : (steps n k : ℕ) → n ≤ steps → Fewest 10 1 n k → k ≡ figuresIn steps n
+unfolding figuresIn
+fewest-figures zero n k l f = fewest-one n k (omega arith) f
+fewest-figures (suc steps) n k l f = by-test (ltb n 10) small (large (λ m. fewest-figures steps (n / 10) m (omega arith)) k f)
+  where
+    small : ltb n 10 ≡ true → k ≡ figuresIn (suc steps) n
+    small e = rw e (fewest-one n k (ltb-true n 10 e) f)
+
+    large : ((m : ℕ) → Fewest 10 1 (n / 10) m → m ≡ figuresIn steps (n / 10)) → (k : ℕ) → Fewest 10 1 n k → ltb n 10 ≡ false
+        → k ≡ figuresIn (suc steps) n
+    large rest zero f e = absurd (omega (arith, f .0))
+    large rest (suc zero) f e = absurd (omega (arith, ltb-false n 10 e, f .1))
+    large rest (suc (suc m)) f e = rw e (ap suc (rest (suc m) (fewest-more n m f)))
+
+pub text-of-number : (n k : ℕ) → Fewest 10 1 n k → digits 10 k n ≡ decimalText n
+unfolding decimalText
+text-of-number n k f = ap (λ (m : ℕ). digits 10 m n) (fewest-figures n n k (omega arith) f)
+
+-- a number's text reads back
+pub read-number : (n k : ℕ) → Fewest 10 1 n k → n ≤ most → decimalOf (decimalText n) ≡ some n
+read-number n k f l = rw (← text-of-number n k f) (read-printed n k f l)

@@ -32,28 +32,6 @@ pub struct Place {
     pub next: usize,
 }
 
-// The names that lines are made of.
-pub enum Name {
-    Fresh,
-    Message,
-    Page,
-    Record,
-    Command,
-    Response,
-    Plain,
-    Ciphered,
-    Build,
-    Checksum,
-    Write,
-    Other,
-}
-
-// A name, and where the line goes on.
-pub struct Spoken {
-    pub name: Name,
-    pub next: usize,
-}
-
 // What a line comes to: where the text ends with its answer; where it is not understood, nothing is written.
 pub struct Said {
     pub understood: bool,

@@ -5,14 +5,13 @@ use packet::Refusal;
 use packet::Written;
 ghost use mathlib.Core.Bool.{true, false};
 ghost use mathlib.Core.Path.{_≡_};
-ghost use Rattle.octets.specs.Octets.{afterPut};
-ghost use Rattle.digits.specs.Digits.{endOf, octetsText};
-ghost use Rattle.lines.specs.Texts.{Printed};
+ghost use Rattle.packet.specs.Refusals.{numberOf, toldWritten};
+ghost use Rattle.digits.specs.Digits.{octetsText, decimalText};
+ghost use Rattle.lines.specs.Texts.{Says, chars, field, count, lineEnd, countedField, refusal, writing, trouble, notUnderstood, tooLong};
 
 // Puts a piece at a place and says where the text then ends.
 pub fn say(piece: &[u8], text: &mut [u8], at: usize) -> usize
-    ensures { λ r. ⌜ r ≡ endOf (now (text .entry)) at (now (piece .entry)) ⌝ }
-    ensures { λ _. ⌜ now (text .exit) ≡ afterPut (now (text .entry)) at (now (piece .entry)) ⌝ }
+    ensures { λ r. ⌜ Says (chars (now (piece .entry))) (now (text .entry)) at r (now (text .exit)) ⌝ }
 {
     if octets::put(piece, text, at) {
         return at + piece.len();
@@ -22,8 +21,7 @@ pub fn say(piece: &[u8], text: &mut [u8], at: usize) -> usize
 
 // Octets as capital digits, or `-` where there are none.
 pub fn say_octets(octets: &[u8], text: &mut [u8], at: usize) -> usize
-    ensures { λ r. ⌜ r ≡ endOf (now (text .entry)) at (octetsText (now (octets .entry))) ⌝ }
-    ensures { λ _. ⌜ now (text .exit) ≡ afterPut (now (text .entry)) at (octetsText (now (octets .entry))) ⌝ }
+    ensures { λ r. ⌜ Says (chars (octetsText (now (octets .entry)))) (now (text .entry)) at r (now (text .exit)) ⌝ }
 {
     if octets.len() == 0 {
         return say(b"-", text, at);
@@ -33,7 +31,7 @@ pub fn say_octets(octets: &[u8], text: &mut [u8], at: usize) -> usize
 
 // A number in decimal, with as few digits as hold it.
 pub fn say_number(n: u64, text: &mut [u8], at: usize) -> usize
-    ensures { λ r. ⌜ Printed n (now (text .entry)) at r (now (text .exit)) ⌝ }
+    ensures { λ r. ⌜ Says (chars (decimalText n)) (now (text .entry)) at r (now (text .exit)) ⌝ }
 {
     let mut figures = [0u8; 20];
     let count = io::decimal(n, &mut figures);
@@ -41,44 +39,56 @@ pub fn say_number(n: u64, text: &mut [u8], at: usize) -> usize
 }
 
 // A blank and octets.
-pub fn say_field(octets: &[u8], text: &mut [u8], at: usize) -> usize {
+pub fn say_field(octets: &[u8], text: &mut [u8], at: usize) -> usize
+    ensures { λ r. ⌜ Says (field (now (octets .entry))) (now (text .entry)) at r (now (text .exit)) ⌝ }
+{
     let at = say(b" ", text, at);
     say_octets(octets, text, at)
 }
 
 // A blank and a number.
-pub fn say_count(n: usize, text: &mut [u8], at: usize) -> usize {
+pub fn say_count(n: usize, text: &mut [u8], at: usize) -> usize
+    ensures { λ r. ⌜ Says (count n) (now (text .entry)) at r (now (text .exit)) ⌝ }
+{
     let at = say(b" ", text, at);
     say_number(n as u64, text, at)
 }
 
 // The end of a line.
-pub fn say_end(text: &mut [u8], at: usize) -> usize {
+pub fn say_end(text: &mut [u8], at: usize) -> usize
+    ensures { λ r. ⌜ Says lineEnd (now (text .entry)) at r (now (text .exit)) ⌝ }
+{
     say(b"\n", text, at)
 }
 
 // A number n, the first n octets, and the end of the line.
-pub fn say_counted(n: usize, octets: &[u8], text: &mut [u8], at: usize) -> usize {
+pub fn say_counted(n: usize, octets: &[u8], text: &mut [u8], at: usize) -> usize
+    ensures { λ r. ⌜ Says (countedField n (now (octets .entry))) (now (text .entry)) at r (now (text .exit)) ⌝ }
+{
     let at = say_count(n, text, at);
     let at = say_field(octets::up_to(octets, n), text, at);
     say_end(text, at)
 }
 
 // `refused N`.
-pub fn say_refusal(refusal: Refusal, text: &mut [u8], at: usize) -> usize {
+pub fn say_refusal(why: Refusal, text: &mut [u8], at: usize) -> usize
+    ensures { λ r. ⌜ Says (refusal (numberOf why)) (now (text .entry)) at r (now (text .exit)) ⌝ }
+{
     let at = say(b"refused", text, at);
-    let at = say_count(refusal.number() as usize, text, at);
+    let at = say_count(octets::wide(why.number()), text, at);
     say_end(text, at)
 }
 
 // What writing to a buffer came to: a name, how many octets stand at its start, and these.
-pub fn say_written(name: &[u8], written: Written, out: &[u8], text: &mut [u8], at: usize) -> usize {
+pub fn say_written(name: &[u8], written: Written, out: &[u8], text: &mut [u8], at: usize) -> usize
+    ensures { λ r. ⌜ Says (writing (now (name .entry)) (toldWritten written) (now (out .entry))) (now (text .entry)) at r (now (text .exit)) ⌝ }
+{
     match written {
         Written::Octets(n) => {
             let at = say(name, text, at);
             say_counted(n, out, text, at)
         }
-        Written::Refused(refusal) => say_refusal(refusal, text, at),
+        Written::Refused(why) => say_refusal(why, text, at),
     }
 }
 
@@ -102,7 +112,9 @@ pub fn not_understood(at: usize) -> Said
 }
 
 // `line N: `, and what is the matter with the line.
-fn say_trouble(number: u64, what: &[u8], text: &mut [u8], at: usize) -> usize {
+fn say_trouble(number: u64, what: &[u8], text: &mut [u8], at: usize) -> usize
+    ensures { λ r. ⌜ Says (trouble number (now (what .entry))) (now (text .entry)) at r (now (text .exit)) ⌝ }
+{
     let at = say(b"line ", text, at);
     let at = say_number(number, text, at);
     let at = say(b": ", text, at);
@@ -111,11 +123,15 @@ fn say_trouble(number: u64, what: &[u8], text: &mut [u8], at: usize) -> usize {
 }
 
 // `line N: not understood`.
-pub fn say_not_understood(number: u64, text: &mut [u8], at: usize) -> usize {
+pub fn say_not_understood(number: u64, text: &mut [u8], at: usize) -> usize
+    ensures { λ r. ⌜ Says (trouble number notUnderstood) (now (text .entry)) at r (now (text .exit)) ⌝ }
+{
     say_trouble(number, b"not understood", text, at)
 }
 
 // `line N: too long`.
-pub fn say_too_long(number: u64, text: &mut [u8], at: usize) -> usize {
+pub fn say_too_long(number: u64, text: &mut [u8], at: usize) -> usize
+    ensures { λ r. ⌜ Says (trouble number tooLong) (now (text .entry)) at r (now (text .exit)) ⌝ }
+{
     say_trouble(number, b"too long", text, at)
 }

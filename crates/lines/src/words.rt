@@ -1,10 +1,8 @@
 // A line's words, and the names among them.
 use crate::Field;
 use crate::Mode;
-use crate::Name;
 use crate::Numeral;
 use crate::Place;
-use crate::Spoken;
 use crate::Two;
 use crate::Word;
 ghost use Prim.Native.Nat.{_≤_, _<_, min};
@@ -12,7 +10,9 @@ ghost use mathlib.Core.Bool.{true, false};
 ghost use mathlib.Core.Path.{_≡_};
 ghost use lib.ListN.{length};
 ghost use Rattle.io.specs.Counts.{Counts};
-ghost use Rattle.lines.specs.Words.{isBlank, goesOn, past, wordFrom, small, isName};
+ghost use Rattle.lines.specs.Words.{isBlank, goesOn, past, wordFrom, small, isName, wordAt, isLast, numeralFrom, modeFrom, FieldRead, lastOctets, twoOctets, TwoRead, exactly, FixedRead, placeAfter, fieldsIn, FieldsRead};
+ghost use mathlib.Core.Option.{none};
+ghost use Rattle.digits.specs.Digits.{wordOctets};
 
 // Whether a character parts words: a space, a tab, or the carriage return that some files have before a line's end.
 fn is_blank(x: u8) -> bool
@@ -89,46 +89,10 @@ pub fn is_name(word: &[u8], name: &[u8]) -> bool
     true
 }
 
-// The name that a word is.
-fn name_of(word: &[u8]) -> Name {
-    if is_name(word, b"message") {
-        return Name::Message;
-    }
-    if is_name(word, b"page") {
-        return Name::Page;
-    }
-    if is_name(word, b"command") {
-        return Name::Command;
-    }
-    if is_name(word, b"response") {
-        return Name::Response;
-    }
-    if is_name(word, b"plain") {
-        return Name::Plain;
-    }
-    if is_name(word, b"ciphered") {
-        return Name::Ciphered;
-    }
-    if is_name(word, b"build") {
-        return Name::Build;
-    }
-    if is_name(word, b"checksum") {
-        return Name::Checksum;
-    }
-    if is_name(word, b"write") {
-        return Name::Write;
-    }
-    if is_name(word, b"record") {
-        return Name::Record;
-    }
-    if is_name(word, b"fresh") {
-        return Name::Fresh;
-    }
-    Name::Other
-}
-
 // Reads the next word as octets, to the start of room.
 pub fn octets_from(line: &[u8], from: usize, room: &mut [u8]) -> Field
+    ensures { λ r. ⌜ FieldRead (wordOctets (length (now (room .entry))) (wordAt (now (line .entry)) from)) (now (room .entry)) r (now (room .exit)) ⌝ }
+    ensures { λ r. ⌜ r .next ≡ wordFrom (now (line .entry)) from .end ⌝ }
     ensures { λ r. ⌜ Counts (r .count) (now (room .exit)) ⌝ }
 {
     let word = word_from(line, from);
@@ -143,13 +107,16 @@ pub fn octets_from(line: &[u8], from: usize, room: &mut [u8]) -> Field
 }
 
 // Whether no word follows.
-pub fn is_last(line: &[u8], from: usize) -> bool {
+pub fn is_last(line: &[u8], from: usize) -> bool
+    ensures { λ r. ⌜ r ≡ isLast (now (line .entry)) from ⌝ }
+{
     let word = word_from(line, from);
     word.start == word.end
 }
 
 // Reads the last word as octets; where another word follows it, it is not understood.
 pub fn last_octets(line: &[u8], from: usize, room: &mut [u8]) -> Field
+    ensures { λ r. ⌜ FieldRead (lastOctets (length (now (room .entry))) (now (line .entry)) from) (now (room .entry)) r (now (room .exit)) ⌝ }
     ensures { λ r. ⌜ Counts (r .count) (now (room .exit)) ⌝ }
 {
     let read = octets_from(line, from, room);
@@ -162,7 +129,9 @@ pub fn last_octets(line: &[u8], from: usize, room: &mut [u8]) -> Field
 }
 
 // Reads the next word as a decimal number.
-pub fn number_from(line: &[u8], from: usize) -> Numeral {
+pub fn number_from(line: &[u8], from: usize) -> Numeral
+    ensures { λ r. ⌜ r ≡ numeralFrom (now (line .entry)) from ⌝ }
+{
     let word = word_from(line, from);
     let start = word.start;
     let end = word.end;
@@ -175,7 +144,10 @@ pub fn number_from(line: &[u8], from: usize) -> Numeral {
 }
 
 // Reads the next word as exactly as many octets as room has.
-fn fixed_from(line: &[u8], from: usize, room: &mut [u8]) -> Place {
+fn fixed_from(line: &[u8], from: usize, room: &mut [u8]) -> Place
+    ensures { λ r. ⌜ FixedRead (exactly (length (now (room .entry))) (wordOctets (length (now (room .entry))) (wordAt (now (line .entry)) from))) r (now (room .exit)) ⌝ }
+    ensures { λ r. ⌜ r .next ≡ wordFrom (now (line .entry)) from .end ⌝ }
+{
     let size = room.len();
     let read = octets_from(line, from, room);
     Place {
@@ -184,23 +156,33 @@ fn fixed_from(line: &[u8], from: usize, room: &mut [u8]) -> Place {
     }
 }
 
+// Nothing that is understood: the line is as it was.
+fn not_there(from: usize) -> Place
+    ensures { λ r. ⌜ r ≡ placeAfter from none ⌝ }
+{
+    Place {
+        understood: false,
+        next: from,
+    }
+}
+
 // Reads words of octets whose lengths are given, one behind the other, to the start of room.
-pub fn fields_from(line: &[u8], from: usize, lengths: &[u8], room: &mut [u8]) -> Place {
+pub fn fields_from(line: &[u8], from: usize, lengths: &[u8], room: &mut [u8]) -> Place
+    ensures { λ r. ⌜ r ≡ placeAfter from (fieldsIn (length (now (room .entry))) (now (line .entry)) from (now (lengths .entry))) ⌝ }
+    ensures { λ _. ⌜ FieldsRead (fieldsIn (length (now (room .entry))) (now (line .entry)) from (now (lengths .entry))) (now (room .entry)) (now (room .exit)) ⌝ }
+{
     let mut next = from;
     let mut at = 0;
     let mut i = 0;
     while i < lengths.len() {
         let n = octets::wide(lengths[i]);
         if room.len() - at < n {
-            return Place {
-                understood: false,
-                next: from,
-            };
+            return not_there(from);
         }
         let end = at + n;
         let place = fixed_from(line, next, &mut room[at..end]);
         if !place.understood {
-            return place;
+            return not_there(from);
         }
         next = place.next;
         at = end;
@@ -212,43 +194,25 @@ pub fn fields_from(line: &[u8], from: usize, lengths: &[u8], room: &mut [u8]) ->
     }
 }
 
-// The next word as a name.
-pub fn name_from(line: &[u8], from: usize) -> Spoken {
+// Reads `plain` or `ciphered`.
+pub fn mode_from(line: &[u8], from: usize) -> Mode
+    ensures { λ r. ⌜ r ≡ modeFrom (now (line .entry)) from ⌝ }
+{
     let word = word_from(line, from);
     let start = word.start;
     let end = word.end;
-    Spoken {
-        name: name_of(&line[start..end]),
+    let plain = is_name(&line[start..end], b"plain");
+    let ciphered = is_name(&line[start..end], b"ciphered");
+    Mode {
+        understood: plain | ciphered,
+        ciphered: ciphered,
         next: end,
-    }
-}
-
-// Reads `plain` or `ciphered`.
-pub fn mode_from(line: &[u8], from: usize) -> Mode {
-    let spoken = name_from(line, from);
-    let name = spoken.name;
-    let next = spoken.next;
-    match name {
-        Name::Plain => Mode {
-            understood: true,
-            ciphered: false,
-            next: next,
-        },
-        Name::Ciphered => Mode {
-            understood: true,
-            ciphered: true,
-            next: next,
-        },
-        _ => Mode {
-            understood: false,
-            ciphered: false,
-            next: next,
-        },
     }
 }
 
 // Reads the last two words as octets, one behind the other to the start of room.
 pub fn two_from(line: &[u8], from: usize, room: &mut [u8]) -> Two
+    ensures { λ r. ⌜ TwoRead (twoOctets (length (now (room .entry))) (now (line .entry)) from) (now (room .entry)) r (now (room .exit)) ⌝ }
     ensures { λ r. ⌜ Counts (r .end) (now (room .exit)) ⌝ }
 {
     let first = octets_from(line, from, room);

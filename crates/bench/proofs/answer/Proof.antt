@@ -1,82 +1,37 @@
--- `answer` meets its contract: each line function leaves alone what it must, and a line that needs no record keeps it. Assumes nothing.
-use Rattle.record_lines.specs.Lines.{answeredSteps}
+-- `answer` meets its contract: a line that asks nothing, and one that goes by its first word. Assumes nothing.
+use Rattle.bench.proofs.Steps.{benchSteps}
 use Rattle.bench.proofs.answer.Statement.{statement}
 use Rattle.bench.proofs.answer.Tie as tie
 
 is-silent-requires : tie.Need-is-silent-requires
-is-silent-requires c κs = search answeredSteps
+is-silent-requires c κs = search benchSteps
 
 returns : tie.Need-returns
-returns c = search answeredSteps
+returns c = search benchSteps
 
-name-from-requires : tie.Need-name-from-requires
-name-from-requires c κs = search answeredSteps
+word-from-requires : tie.Need-word-from-requires
+word-from-requires c κs = search benchSteps
 
-enum-told : tie.Need-enum-told
-enum-told c = search answeredSteps
+sub-word-line : tie.Need-sub-word-line
+sub-word-line c = search benchSteps
 
-message-line-requires : tie.Need-message-line-requires
-message-line-requires c κs = search answeredSteps
+part-word-line-start : tie.Need-part-word-line-start
+part-word-line-start c = search benchSteps
 
-enum-told-2 : tie.Need-enum-told-2
-enum-told-2 c = search answeredSteps
+part-word-line-end : tie.Need-part-word-line-end
+part-word-line-end c = search benchSteps
 
-page-line-requires : tie.Need-page-line-requires
-page-line-requires c κs = search answeredSteps
-
-enum-told-3 : tie.Need-enum-told-3
-enum-told-3 c = search answeredSteps
-
-fresh-line-requires : tie.Need-fresh-line-requires
-fresh-line-requires c κs = search answeredSteps
-
-enum-told-4 : tie.Need-enum-told-4
-enum-told-4 c = search answeredSteps
-
-record-line-requires : tie.Need-record-line-requires
-record-line-requires c κs = search answeredSteps
-
-other-line-requires : tie.Need-other-line-requires
-other-line-requires c κs = search answeredSteps
+word-line-requires : tie.Need-word-line-requires
+word-line-requires c κs = search benchSteps
 
 same-length : tie.Need-same-length
-same-length c = search answeredSteps
+same-length c = search benchSteps
 
 same-length-2 : tie.Need-same-length-2
-same-length-2 c = search answeredSteps
+same-length-2 c = search benchSteps
 
 returns-2 : tie.Need-returns-2
-returns-2 c = search answeredSteps
-
-same-length-3 : tie.Need-same-length-3
-same-length-3 c = search answeredSteps
-
-same-length-4 : tie.Need-same-length-4
-same-length-4 c = search answeredSteps
-
-returns-3 : tie.Need-returns-3
-returns-3 c = search answeredSteps
-
-same-length-5 : tie.Need-same-length-5
-same-length-5 c = search answeredSteps
-
-same-length-6 : tie.Need-same-length-6
-same-length-6 c = search answeredSteps
-
-returns-4 : tie.Need-returns-4
-returns-4 c = search answeredSteps
-
-same-length-7 : tie.Need-same-length-7
-same-length-7 c = search answeredSteps
-
-returns-5 : tie.Need-returns-5
-returns-5 c = search answeredSteps
-
-same-length-8 : tie.Need-same-length-8
-same-length-8 c = search answeredSteps
-
-returns-6 : tie.Need-returns-6
-returns-6 c = search answeredSteps
+returns-2 c = search benchSteps
 
 pub answer-spec : {M : Type 1} → statement M
 answer-spec =
@@ -84,26 +39,11 @@ answer-spec =
     (tie.spec
     is-silent-requires
     returns
-    name-from-requires
-    enum-told
-    message-line-requires
-    enum-told-2
-    page-line-requires
-    enum-told-3
-    fresh-line-requires
-    enum-told-4
-    record-line-requires
-    other-line-requires
+    word-from-requires
+    sub-word-line
+    part-word-line-start
+    part-word-line-end
+    word-line-requires
     same-length
     same-length-2
-    returns-2
-    same-length-3
-    same-length-4
-    returns-3
-    same-length-5
-    same-length-6
-    returns-4
-    same-length-7
-    returns-5
-    same-length-8
-    returns-6)
+    returns-2)

@@ -1,67 +1,43 @@
--- `build_plain` meets its contract: a line that is not understood comes back before anything is written, and of one that is the promise asks nothing. Assumes nothing.
-use Rattle.lines.specs.Texts.{saidSteps}
+-- `build_plain` meets its contract: the fields and the two words of octets are those that the rule reads; where one is not understood, nothing was written. Assumes nothing.
+use Rattle.build_lines.proofs.Steps.{buildSteps}
 use Rattle.build_lines.proofs.build_plain.Statement.{statement}
 use Rattle.build_lines.proofs.build_plain.Tie as tie
 
 slice-aggregate-fields-from : tie.Need-slice-aggregate-fields-from
-slice-aggregate-fields-from c = search saidSteps
+slice-aggregate-fields-from c = search buildSteps
 
 fields-from-requires : tie.Need-fields-from-requires
-fields-from-requires c κs = search saidSteps
+fields-from-requires c κs = search buildSteps
 
 slice-aggregate-two-from : tie.Need-slice-aggregate-two-from
-slice-aggregate-two-from c = search saidSteps
+slice-aggregate-two-from c = search buildSteps
 
 two-from-requires : tie.Need-two-from-requires
-two-from-requires c κs = search saidSteps
+two-from-requires c κs = search buildSteps
 
 not-understood-requires : tie.Need-not-understood-requires
-not-understood-requires c κs = search saidSteps
+not-understood-requires c κs = search buildSteps
 
 returns : tie.Need-returns
-returns c = search saidSteps
-
-enum-told : tie.Need-enum-told
-enum-told c = search saidSteps
+returns c = search buildSteps
 
 slice-aggregate-up-to : tie.Need-slice-aggregate-up-to
-slice-aggregate-up-to c = search saidSteps
+slice-aggregate-up-to c = search buildSteps
 
 up-to-requires : tie.Need-up-to-requires
-up-to-requires c κs = search saidSteps
+up-to-requires c κs = search buildSteps
 
-plain-command-requires : tie.Need-plain-command-requires
-plain-command-requires c κs = search saidSteps
+plain-requires : tie.Need-plain-requires
+plain-requires c κs = search buildSteps
 
 understood-requires : tie.Need-understood-requires
-understood-requires c κs = search saidSteps
-
-enum-told-2 : tie.Need-enum-told-2
-enum-told-2 c = search saidSteps
-
-slice-aggregate-up-to-2 : tie.Need-slice-aggregate-up-to-2
-slice-aggregate-up-to-2 c = search saidSteps
-
-up-to-requires-2 : tie.Need-up-to-requires-2
-up-to-requires-2 c κs = search saidSteps
-
-plain-response-requires : tie.Need-plain-response-requires
-plain-response-requires c κs = search saidSteps
-
-understood-requires-2 : tie.Need-understood-requires-2
-understood-requires-2 c κs = search saidSteps
+understood-requires c κs = search buildSteps
 
 same-length : tie.Need-same-length
-same-length c = search saidSteps
+same-length c = search buildSteps
 
 returns-2 : tie.Need-returns-2
-returns-2 c = search saidSteps
-
-same-length-2 : tie.Need-same-length-2
-same-length-2 c = search saidSteps
-
-returns-3 : tie.Need-returns-3
-returns-3 c = search saidSteps
+returns-2 c = search buildSteps
 
 pub build-plain-spec : {M : Type 1} → statement M
 build-plain-spec =
@@ -73,17 +49,9 @@ build-plain-spec =
     two-from-requires
     not-understood-requires
     returns
-    enum-told
     slice-aggregate-up-to
     up-to-requires
-    plain-command-requires
+    plain-requires
     understood-requires
-    enum-told-2
-    slice-aggregate-up-to-2
-    up-to-requires-2
-    plain-response-requires
-    understood-requires-2
     same-length
-    returns-2
-    same-length-2
-    returns-3)
+    returns-2)

@@ -1,4 +1,4 @@
--- `put` meets its contract: each need follows by a lemma of `Steps`. Assumes nothing.
+-- `put` meets its contract: what fits is copied between what stood before and behind it, and else nothing is. Assumes nothing.
 use Rattle.octets.proofs.Steps.{steps}
 use Rattle.octets.proofs.put.Statement.{statement}
 use Rattle.octets.proofs.put.Tie as tie

@@ -1,4 +1,4 @@
--- `same` meets its contract: each need follows by a lemma of `Steps`. Assumes nothing.
+-- `same` meets its contract: the kit's comparison tells both ways. Assumes nothing.
 use Rattle.octets.proofs.Steps.{steps}
 use Rattle.octets.proofs.same.Statement.{statement}
 use Rattle.octets.proofs.same.Tie as tie

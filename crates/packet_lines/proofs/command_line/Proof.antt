@@ -1,37 +1,37 @@
--- `command_line` meets its contract: a line that is not understood comes back before anything is written, and of one that is the promise asks nothing. Assumes nothing.
-use Rattle.lines.specs.Texts.{saidSteps}
+-- `command_line` meets its contract: the octets are those that the rule reads; where they are not understood, nothing was written. Assumes nothing.
+use Rattle.packet_lines.proofs.Steps.{packetSteps}
 use Rattle.packet_lines.proofs.command_line.Statement.{statement}
 use Rattle.packet_lines.proofs.command_line.Tie as tie
 
 slice-aggregate-last-octets : tie.Need-slice-aggregate-last-octets
-slice-aggregate-last-octets c = search saidSteps
+slice-aggregate-last-octets c = search packetSteps
 
 last-octets-requires : tie.Need-last-octets-requires
-last-octets-requires c κs = search saidSteps
+last-octets-requires c κs = search packetSteps
 
 not-understood-requires : tie.Need-not-understood-requires
-not-understood-requires c κs = search saidSteps
+not-understood-requires c κs = search packetSteps
 
 returns : tie.Need-returns
-returns c = search saidSteps
+returns c = search packetSteps
 
 slice-aggregate-up-to : tie.Need-slice-aggregate-up-to
-slice-aggregate-up-to c = search saidSteps
+slice-aggregate-up-to c = search packetSteps
 
 up-to-requires : tie.Need-up-to-requires
-up-to-requires c κs = search saidSteps
+up-to-requires c κs = search packetSteps
 
 parse-command-requires : tie.Need-parse-command-requires
-parse-command-requires c κs = search saidSteps
+parse-command-requires c κs = search packetSteps
 
 understood-requires : tie.Need-understood-requires
-understood-requires c κs = search saidSteps
+understood-requires c κs = search packetSteps
 
 same-length : tie.Need-same-length
-same-length c = search saidSteps
+same-length c = search packetSteps
 
 returns-2 : tie.Need-returns-2
-returns-2 c = search saidSteps
+returns-2 c = search packetSteps
 
 pub command-line-spec : {M : Type 1} → statement M
 command-line-spec =

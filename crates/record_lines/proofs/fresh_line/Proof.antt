@@ -1,73 +1,53 @@
--- `fresh_line` meets its contract: a line that is not understood comes back before anything is written, and of one that is the promise asks nothing. Assumes nothing.
-use Rattle.record_lines.specs.Lines.{answeredSteps}
+-- `fresh_line` meets its contract: the word is the last or not. Assumes nothing.
+use Rattle.record_lines.proofs.Steps.{recordSteps}
 use Rattle.record_lines.proofs.fresh_line.Statement.{statement}
 use Rattle.record_lines.proofs.fresh_line.Tie as tie
 
-name-from-requires : tie.Need-name-from-requires
-name-from-requires c κs = search answeredSteps
+word-from-requires : tie.Need-word-from-requires
+word-from-requires c κs = search recordSteps
 
 is-last-requires : tie.Need-is-last-requires
-is-last-requires c κs = search answeredSteps
+is-last-requires c κs = search recordSteps
 
-unanswered-requires : tie.Need-unanswered-requires
-unanswered-requires c κs = search answeredSteps
+sub-fresh-kind : tie.Need-sub-fresh-kind
+sub-fresh-kind c = search recordSteps
 
-returns : tie.Need-returns
-returns c = search answeredSteps
+part-fresh-kind-start : tie.Need-part-fresh-kind-start
+part-fresh-kind-start c = search recordSteps
 
-enum-told : tie.Need-enum-told
-enum-told c = search answeredSteps
+part-fresh-kind-end : tie.Need-part-fresh-kind-end
+part-fresh-kind-end c = search recordSteps
 
-fresh-of-requires : tie.Need-fresh-of-requires
-fresh-of-requires c κs = search answeredSteps
-
-enum-told-2 : tie.Need-enum-told-2
-enum-told-2 c = search answeredSteps
-
-fresh-of-requires-2 : tie.Need-fresh-of-requires-2
-fresh-of-requires-2 c κs = search answeredSteps
-
-unanswered-requires-2 : tie.Need-unanswered-requires-2
-unanswered-requires-2 c κs = search answeredSteps
+fresh-kind-requires : tie.Need-fresh-kind-requires
+fresh-kind-requires c κs = search recordSteps
 
 same-length : tie.Need-same-length
-same-length c = search answeredSteps
+same-length c = search recordSteps
 
 same-length-2 : tie.Need-same-length-2
-same-length-2 c = search answeredSteps
+same-length-2 c = search recordSteps
+
+returns : tie.Need-returns
+returns c = search recordSteps
+
+unanswered-requires : tie.Need-unanswered-requires
+unanswered-requires c κs = search recordSteps
 
 returns-2 : tie.Need-returns-2
-returns-2 c = search answeredSteps
-
-same-length-3 : tie.Need-same-length-3
-same-length-3 c = search answeredSteps
-
-same-length-4 : tie.Need-same-length-4
-same-length-4 c = search answeredSteps
-
-returns-3 : tie.Need-returns-3
-returns-3 c = search answeredSteps
-
-returns-4 : tie.Need-returns-4
-returns-4 c = search answeredSteps
+returns-2 c = search recordSteps
 
 pub fresh-line-spec : {M : Type 1} → statement M
 fresh-line-spec =
     tie.close
     (tie.spec
-    name-from-requires
+    word-from-requires
     is-last-requires
-    unanswered-requires
-    returns
-    enum-told
-    fresh-of-requires
-    enum-told-2
-    fresh-of-requires-2
-    unanswered-requires-2
+    sub-fresh-kind
+    part-fresh-kind-start
+    part-fresh-kind-end
+    fresh-kind-requires
     same-length
     same-length-2
-    returns-2
-    same-length-3
-    same-length-4
-    returns-3
-    returns-4)
+    returns
+    unanswered-requires
+    returns-2)

@@ -1,7 +1,7 @@
 -- The letters passed are the same, so that what is left decides (`Named`). Assumes nothing.
 use Prim.Native.Nat.{_-_}
 use lib.ListN.{length}
-use Rattle.lines.proofs.Steps.{steps, Named, named-more}
+use Rattle.lines.proofs.WordSteps.{wordSteps, Named, named-more}
 use Rattle.lines.proofs.words.is_name.Statement.{statement}
 use Rattle.lines.proofs.words.is_name.Tie as tie
 
@@ -12,34 +12,34 @@ abbrev μ-loop : tie.MeasureT-loop
 μ-loop word name i₀ i = length word - i
 
 returns : tie.Need-returns Inv-loop μ-loop
-returns c = search steps
+returns c = search wordSteps
 
 loop-holds : tie.Need-loop-holds Inv-loop μ-loop
-loop-holds c = search steps
+loop-holds c = search wordSteps
 
 shared-slice-read-small-of : tie.Need-shared-slice-read-small-of Inv-loop μ-loop
-shared-slice-read-small-of c = search steps
+shared-slice-read-small-of c = search wordSteps
 
 small-of-requires : tie.Need-small-of-requires Inv-loop μ-loop
-small-of-requires c κs = search steps
+small-of-requires c κs = search wordSteps
 
 shared-slice-read-if2 : tie.Need-shared-slice-read-if2 Inv-loop μ-loop
-shared-slice-read-if2 c = search steps
+shared-slice-read-if2 c = search wordSteps
 
 add-i : tie.Need-add-i Inv-loop μ-loop
-add-i c = search steps
+add-i c = search wordSteps
 
 loop-less : tie.Need-loop-less Inv-loop μ-loop
-loop-less c = search steps
+loop-less c = search wordSteps
 
 loop-again : tie.Need-loop-again Inv-loop μ-loop
 loop-again c = named-more _ _ _ (c .before .before .before .before .before .loop .inv) (c .before .before .before .before .loop-test .taken) _ (c .before .before .small-of .ensures) (c .if2 .taken)
 
 returns-2 : tie.Need-returns-2 Inv-loop μ-loop
-returns-2 c = search steps
+returns-2 c = search wordSteps
 
 returns-3 : tie.Need-returns-3 Inv-loop μ-loop
-returns-3 c = search steps
+returns-3 c = search wordSteps
 
 pub is-name-spec : {M : Type 1} → statement M
 is-name-spec =

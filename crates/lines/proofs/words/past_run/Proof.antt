@@ -1,7 +1,7 @@
 -- Every character passed goes on with the run, so that it ends where it did before (`Running`). Assumes nothing.
 use Prim.Native.Nat.{_-_}
 use lib.ListN.{length}
-use Rattle.lines.proofs.Steps.{steps, Running}
+use Rattle.lines.proofs.WordSteps.{wordSteps, Running}
 use Rattle.lines.proofs.words.past_run.Statement.{statement}
 use Rattle.lines.proofs.words.past_run.Tie as tie
 
@@ -12,28 +12,28 @@ abbrev μ-loop : tie.MeasureT-loop
 μ-loop blanks line from at₀ at = length line - at
 
 loop-holds : tie.Need-loop-holds Inv-loop μ-loop
-loop-holds c = search steps
+loop-holds c = search wordSteps
 
 shared-slice-read-goes-on : tie.Need-shared-slice-read-goes-on Inv-loop μ-loop
-shared-slice-read-goes-on c = search steps
+shared-slice-read-goes-on c = search wordSteps
 
 goes-on-requires : tie.Need-goes-on-requires Inv-loop μ-loop
-goes-on-requires c κs = search steps
+goes-on-requires c κs = search wordSteps
 
 add-at : tie.Need-add-at Inv-loop μ-loop
-add-at c = search steps
+add-at c = search wordSteps
 
 loop-less : tie.Need-loop-less Inv-loop μ-loop
-loop-less c = search steps
+loop-less c = search wordSteps
 
 loop-again : tie.Need-loop-again Inv-loop μ-loop
-loop-again c = search steps
+loop-again c = search wordSteps
 
 returns : tie.Need-returns Inv-loop μ-loop
-returns c = search steps
+returns c = search wordSteps
 
 returns-2 : tie.Need-returns-2 Inv-loop μ-loop
-returns-2 c = search steps
+returns-2 c = search wordSteps
 
 pub past-run-spec : {M : Type 1} → statement M
 past-run-spec =

@@ -1,0 +1,37 @@
+-- `sum_response` meets its contract: what was written is what the rule writes, and it is said. Assumes nothing.
+use Rattle.packet_lines.proofs.Steps.{packetSteps}
+use Rattle.packet_lines.proofs.sum_response.Statement.{statement}
+use Rattle.packet_lines.proofs.sum_response.Tie as tie
+
+slice-aggregate-response-checksum : tie.Need-slice-aggregate-response-checksum
+slice-aggregate-response-checksum c = search packetSteps
+
+response-checksum-requires : tie.Need-response-checksum-requires
+response-checksum-requires c κs = search packetSteps
+
+slice-aggregate-say-written : tie.Need-slice-aggregate-say-written
+slice-aggregate-say-written c = search packetSteps
+
+slice-aggregate-say-written-2 : tie.Need-slice-aggregate-say-written-2
+slice-aggregate-say-written-2 c = search packetSteps
+
+say-written-requires : tie.Need-say-written-requires
+say-written-requires c κs = search packetSteps
+
+same-length : tie.Need-same-length
+same-length c = search packetSteps
+
+returns : tie.Need-returns
+returns c = search packetSteps
+
+pub sum-response-spec : {M : Type 1} → statement M
+sum-response-spec =
+    tie.close
+    (tie.spec
+    slice-aggregate-response-checksum
+    response-checksum-requires
+    slice-aggregate-say-written
+    slice-aggregate-say-written-2
+    say-written-requires
+    same-length
+    returns)
