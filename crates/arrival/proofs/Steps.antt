@@ -13,22 +13,22 @@ use mir.Syntax.{w8, w16, w64}
 use mir.Val.{Fits}
 use borrow.Author.Needs.{needs}
 use borrow.Author.Tests.{le-leb, lt-leb, lt-ltb, le-ltb, eq-eqb, ne-eqb}
-use Rattle.packet.specs.declared.Kind.{Kind}
-use Rattle.packet.specs.Refusals.{refused, gives}
+use Rattle.types.specs.declared.Kind.{Kind}
+use Rattle.types.specs.Refusals.{refused, gives}
 use Rattle.packet.specs.Packets.{differ}
 use Rattle.header.specs.declared.Concatenation.{Concatenation}
 use Rattle.header.specs.declared.Seen.{Seen}
-use Rattle.header.specs.declared.Element.the-variants as element
 use Rattle.header.specs.declared.Walked.{Walked}
 use Rattle.header.specs.declared.Walked.the-variants as whole
-use Rattle.arrival.specs.declared.Arrival.{Arrival}
-use Rattle.arrival.specs.declared.Key.{Key}
-use Rattle.arrival.specs.declared.SerialNumber.{SerialNumber}
-use Rattle.arrival.specs.declared.MessageIdentifier.{MessageIdentifier}
+use Rattle.types.specs.declared.Arrival.{Arrival}
+use Rattle.types.specs.declared.Key.{Key}
+use Rattle.types.specs.declared.SerialNumber.{SerialNumber}
+use Rattle.types.specs.declared.MessageIdentifier.{MessageIdentifier}
 use Rattle.arrival.specs.Arrivals.{single, part, toldArrival}
 use Rattle.header.specs.Header.{Item, elements, wrongLength, anyOf, summary}
 use Rattle.arrival.specs.Message.{alone, opens, own, foreign, misplaced, messageKey, judged, whereRead, readMessage, headerOctets, afterHeader}
 use Rattle.arrival.specs.Page.{serialIn, identifierIn, parameterIn, oneOfOne, pageTotal, pageNumber, pageKey, noPages, identifierInRange, misdirected, readPage}
+use Rattle.arrival.specs.Keys.{room}
 use Rattle.header.specs.Reading.{nothingSeen, seenAfter, collected, walked}
 use Rattle.header.specs.Laws.{after-wrong, seen-summary}
 
@@ -175,8 +175,26 @@ module _ (o : List ℕ) (start : ℕ) where
   pub own-rest : take (length o - start) (drop start o) ≡ drop start o
   own-rest = take-all (length o - start) (drop start o) (simp length-drop (omega arith))
 
+-- ---- the room of a part: by cases on the two tests that the rule makes
+module _ (w k : ℕ) where
+  pub wide-first : w ≡ 16 → k ≡ 1 → 131 ≡ room w k
+  wide-first p q = rw (eq-eqb w 16 p, eq-eqb k 1 q)
+
+  pub wide-later : w ≡ 16 → (k ≡ 1 → ⊥) → 133 ≡ room w k
+  wide-later p q = rw (eq-eqb w 16 p, ne-eqb k 1 q)
+
+  pub narrow-first : (w ≡ 16 → ⊥) → k ≡ 1 → 132 ≡ room w k
+  narrow-first p q = rw (ne-eqb w 16 p, eq-eqb k 1 q)
+
+  pub narrow-later : (w ≡ 16 → ⊥) → (k ≡ 1 → ⊥) → 134 ≡ room w k
+  narrow-later p q = rw (ne-eqb w 16 p, ne-eqb k 1 q)
+
 pub ruleset steps = (
   needs,
+  wide-first,
+  wide-later,
+  narrow-first,
+  narrow-later,
   octet-fits-16,
   octet-fits-64,
   opens-told,

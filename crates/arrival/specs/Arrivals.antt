@@ -1,9 +1,9 @@
 -- What a message or a page brings, in the words of 01.
 use Prim.Native.Nat.{ℕ}
-use Rattle.packet.specs.Refusals.{Outcome, refused, gives, numberOf}
-use Rattle.arrival.specs.declared.Key.{Key}
-use Rattle.arrival.specs.declared.Arrival.{Arrival}
-use Rattle.arrival.specs.declared.Arrival.the-variants.{Single, Part, Refused}
+use Rattle.types.specs.Refusals.{Outcome, refused, gives, numberOf}
+use Rattle.types.specs.declared.Key.{Key}
+use Rattle.types.specs.declared.Arrival.{Arrival}
+use Rattle.types.specs.declared.Arrival.the-variants.{Single, Part, Refused}
 
 -- A single message or page, or part `number` of the `total` parts of the series with that key. "The octets after the header are the part's own":
 -- they begin at `start`.

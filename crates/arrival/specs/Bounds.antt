@@ -11,9 +11,9 @@ use lib.Seq.{length-take-le, getD-drop}
 use lib.Dec.{eqb, ltb, leb}
 use borrow.Author.Tests.{eqb-true, not-false, eqb-false, ne-eqb, lt-ltb, ltb-false, leb-false}
 use Rattle.octets.specs.Tests.{neither}
-use Rattle.packet.specs.declared.Kind.{Kind}
-use Rattle.packet.specs.declared.Kind.the-variants.{Command, Response}
-use Rattle.packet.specs.Refusals.{Outcome, gives, refuse_when_otherwise_}
+use Rattle.types.specs.declared.Kind.{Kind}
+use Rattle.types.specs.declared.Kind.the-variants.{Command, Response}
+use Rattle.types.specs.Refusals.{Outcome, gives, refuse_when_otherwise_}
 use Rattle.packet.specs.Packets.{differ}
 use Rattle.octets.specs.Octets.{numberOf}
 use Rattle.octets.specs.Laws.{number-fits}

@@ -9,9 +9,9 @@ use lib.ListN.{length, length-append}
 use lib.Seq.{take-append-seam}
 use lib.Dec.{eqb}
 use borrow.Author.Tests.{le-ltb, lt-leb, ne-eqb}
-use Rattle.packet.specs.declared.Kind.{Kind}
-use Rattle.packet.specs.declared.Kind.the-variants.{Command, Response}
-use Rattle.packet.specs.Refusals.{gives}
+use Rattle.types.specs.declared.Kind.{Kind}
+use Rattle.types.specs.declared.Kind.the-variants.{Command, Response}
+use Rattle.types.specs.Refusals.{gives}
 use Rattle.packet.specs.Packets.{differ}
 use Rattle.octets.specs.Octets.{numberOf}
 use Rattle.header.specs.declared.Concatenation.{Concatenation}

@@ -9,9 +9,9 @@ use native.Mathlib.Omega.{arith}
 use lib.ListN.{length, drop, length-drop}
 use lib.Dec.{eqb}
 use borrow.Author.Tests.{le-leb, eq-eqb, not-true}
-use Rattle.packet.specs.declared.Kind.{Kind}
-use Rattle.packet.specs.Refusals.{gives}
-use Rattle.arrival.specs.declared.Key.{Key}
+use Rattle.types.specs.declared.Kind.{Kind}
+use Rattle.types.specs.Refusals.{gives}
+use Rattle.types.specs.declared.Key.{Key}
 use Rattle.header.specs.declared.Concatenation.{Concatenation}
 use Rattle.arrival.specs.Arrivals.{Brought, single, part}
 use Rattle.arrival.specs.Message.{alone, afterHeader, mostParts, messageKey, readMessage}

@@ -5,11 +5,11 @@ use mathlib.Core.Bool.{Bool, cond, _||_}
 use mathlib.Core.Option.{Option, none, some}
 use lib.ListN.{length, getD, take, drop}
 use lib.Dec.{eqb, ltb, leb}
-use Rattle.packet.specs.declared.Kind.{Kind}
-use Rattle.packet.specs.declared.Kind.the-variants.{Command, Response}
-use Rattle.packet.specs.Refusals.{Outcome, refused, gives, refuse_when_otherwise_}
+use Rattle.types.specs.declared.Kind.{Kind}
+use Rattle.types.specs.declared.Kind.the-variants.{Command, Response}
+use Rattle.types.specs.Refusals.{Outcome, refused, gives, refuse_when_otherwise_}
 use Rattle.packet.specs.Packets.{differ}
-use Rattle.arrival.specs.declared.Key.{Key}
+use Rattle.types.specs.declared.Key.{Key}
 use Rattle.header.specs.declared.Concatenation.{Concatenation}
 use Rattle.header.specs.declared.Seen.{Seen}
 use Rattle.arrival.specs.Arrivals.{Brought, single, part}

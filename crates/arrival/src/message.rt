@@ -1,15 +1,17 @@
 // What the user data of a short message brings (01, "User data header" and "Numbers of refusal"): 2, 3, 4, 5, 6 in this order.
-use crate::Arrival;
-use crate::Key;
-use crate::MessageIdentifier;
-use crate::SerialNumber;
 use header::Concatenation;
 use header::Cursor;
 use header::Seen;
 use header::Walked;
 use header::walk;
-use packet::Kind;
-use packet::Refusal;
+use types::Arrival;
+use types::Key;
+use types::Kind;
+use types::MessageIdentifier;
+use types::PARTS;
+use types::Refusal;
+use types::SerialNumber;
+use types::USER_DATA_OCTETS;
 ghost use mathlib.Core.Path.{_≡_};
 ghost use Rattle.arrival.specs.Arrivals.{toldArrival};
 ghost use Rattle.arrival.specs.Message.{alone, own, foreign, opens, misplaced, messageKey, judged, readMessage};
@@ -82,7 +84,7 @@ fn judge(kind: Kind, sender: u32, start: usize, seen: Seen) -> Arrival
     if is_alone(c) {
         return Arrival::Single { start };
     }
-    if 16 < c.total {
+    if (PARTS as u8) < c.total {
         return Arrival::Refused(Refusal::Total);
     }
     Arrival::Part {
@@ -97,7 +99,7 @@ fn judge(kind: Kind, sender: u32, start: usize, seen: Seen) -> Arrival
 pub fn read_message(kind: Kind, sender: u32, ud: &[u8]) -> Arrival
     ensures { λ r. ⌜ toldArrival r ≡ readMessage kind sender (now (ud .entry)) ⌝ }
 {
-    if 140 < ud.len() {
+    if USER_DATA_OCTETS < ud.len() {
         return Arrival::Refused(Refusal::Size);
     }
     if ud.len() == 0 {

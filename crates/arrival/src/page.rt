@@ -1,14 +1,17 @@
 // What a cell broadcast page brings (01, "Pages"): 2, 4, 5 in this order.
-use crate::Arrival;
-use crate::Key;
-use crate::MessageIdentifier;
-use crate::SerialNumber;
-use packet::Kind;
-use packet::Refusal;
+use crate::keys::in_range;
+use crate::keys::is_pageless;
+use types::Arrival;
+use types::Key;
+use types::Kind;
+use types::MessageIdentifier;
+use types::PAGE_OCTETS;
+use types::Refusal;
+use types::SerialNumber;
 ghost use mathlib.Core.Path.{_≡_};
 ghost use lib.ListN.{length};
 ghost use Rattle.arrival.specs.Arrivals.{toldArrival};
-ghost use Rattle.arrival.specs.Page.{pageOctets, serialIn, identifierIn, oneOfOne, pageNumber, pageTotal, identifierInRange, noPages, misdirected, pageKey, readPage};
+ghost use Rattle.arrival.specs.Page.{pageOctets, serialIn, identifierIn, oneOfOne, pageNumber, pageTotal, misdirected, pageKey, readPage};
 
 // Whether a page parameter has a zero in either half, which means page 1 of 1.
 fn is_one_of_one(parameter: u8) -> bool
@@ -51,23 +54,6 @@ fn identifier_in(page: &[u8]) -> MessageIdentifier
     MessageIdentifier(octets::number_of(page[2], page[3]))
 }
 
-// Whether a message identifier is one of those set aside for secured packets.
-fn in_range(identifier: MessageIdentifier) -> bool
-    ensures { λ r. ⌜ r ≡ identifierInRange (identifier .0) ⌝ }
-{
-    (0x1080 <= identifier.0) & (identifier.0 <= 0x109F)
-}
-
-// Whether records of this kind take no pages.
-fn is_pageless(kind: Kind) -> bool
-    ensures { λ r. ⌜ r ≡ noPages kind ⌝ }
-{
-    match kind {
-        Kind::Command => false,
-        Kind::Response => true,
-    }
-}
-
 // Whether a page with this identifier is not for a record of this kind.
 fn is_misdirected(kind: Kind, identifier: MessageIdentifier) -> bool
     ensures { λ r. ⌜ r ≡ misdirected kind (identifier .0) ⌝ }
@@ -92,7 +78,7 @@ fn key_of(serial: SerialNumber, identifier: MessageIdentifier) -> Key
 pub fn read_page(kind: Kind, page: &[u8]) -> Arrival
     ensures { λ r. ⌜ toldArrival r ≡ readPage kind (now (page .entry)) ⌝ }
 {
-    if page.len() != 88 {
+    if page.len() != PAGE_OCTETS {
         return Arrival::Refused(Refusal::Size);
     }
     let parameter = page[5];

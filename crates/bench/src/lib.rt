@@ -1,137 +1,76 @@
-// The bench: a line of text is a call of the library, and its answer is a line of text again.
-use lines::Said;
-use lines::texts;
-use lines::words;
-use slots::Record;
-use take_lines::Answered;
-ghost use Prim.Native.Nat.{ℕ};
-ghost use mathlib.Core.List.{List};
+// The bench: a line of text is a call of the library, and its answer is a line of text again. Here are the lines that change what is held
+// from line to line: the record, the cells, the output, and how much of each buffer is lent.
+mod held;
+mod slots;
+pub mod table;
+
+use lines::RIGHT;
+use types::Kind;
+use types::Record;
 ghost use mathlib.Core.Path.{_≡_};
-ghost use Rattle.lines.specs.Heard.{SaidAs};
-ghost use Rattle.take_lines.specs.Lines.{RepliedAs, CellsAs};
-ghost use Rattle.bench.specs.Answers.{madeSaid, otherSaid, unmoved, heldReply, wordReply, silentLine, reply};
+ghost use mathlib.Core.Bool.{true, false};
+ghost use Rattle.bench.specs.Lines.{atStart, allRight};
 
-// Whether a line asks nothing: it has no word, or its first begins with `#`.
-fn is_silent(line: &[u8]) -> bool
-    ensures { λ r. ⌜ r ≡ silentLine (now (line .entry)) ⌝ }
-{
-    let word = words::word_from(line, 0);
-    let start = word.start;
-    if start < line.len() {
-        return line[start] == 35;
-    }
-    true
+// How many octets of each buffer are lent; `RIGHT` stands for the right number.
+pub struct Lent {
+    pub cells: usize,
+    pub output: usize,
+    pub buffer: usize,
 }
 
-// ---- lines that need no record
-// `build ..`, `write ..`.
-fn make_line(what: &[u8], line: &[u8], from: usize, text: &mut [u8], at: usize) -> Said
-    ensures { λ r. ⌜ SaidAs (madeSaid (now (what .entry)) (now (line .entry)) from) at (now (text .entry)) r (now (text .exit)) ⌝ }
-{
-    if words::is_name(what, b"build") {
-        return build_lines::build_line(line, from, text, at);
-    }
-    if words::is_name(what, b"write") {
-        return part_lines::write_line(line, from, text, at);
-    }
-    texts::not_understood(at)
+// What is held from line to line beside the buffers, and whether answers are numbered.
+pub struct Bench {
+    pub record: Record,
+    pub lent: Lent,
+    pub numbered: bool,
 }
 
-// `command ..`, `response ..`, `checksum ..`, and those.
-fn other_line(what: &[u8], line: &[u8], from: usize, text: &mut [u8], at: usize) -> Said
-    ensures { λ r. ⌜ SaidAs (otherSaid (now (what .entry)) (now (line .entry)) from) at (now (text .entry)) r (now (text .exit)) ⌝ }
-{
-    if words::is_name(what, b"command") {
-        return packet_lines::command_line(line, from, text, at);
-    }
-    if words::is_name(what, b"response") {
-        return packet_lines::response_line(line, from, text, at);
-    }
-    if words::is_name(what, b"checksum") {
-        return packet_lines::checksum_line(line, from, text, at);
-    }
-    make_line(what, line, from, text, at)
+// What a line comes to: what is held afterwards, and where the text ends with its answer.
+pub struct Heard {
+    pub bench: Bench,
+    pub understood: bool,
+    pub end: usize,
 }
 
-// The record comes back as it was.
-fn unmoved_line(
-    state: Record,
-    what: &[u8],
-    line: &[u8],
-    from: usize,
-    text: &mut [u8],
-    at: usize,
-) -> Answered
-    ensures { λ r. ⌜ ((cells : List ℕ) → RepliedAs (unmoved state cells (otherSaid (now (what .entry)) (now (line .entry)) from)) state at (now (text .entry)) r (now (text .exit))) ⌝ }
+// The right numbers.
+pub(crate) fn all_right() -> Lent
+    ensures { λ r. ⌜ r ≡ allRight ⌝ }
 {
-    let said = other_line(what, line, from, text, at);
-    Answered {
-        record: state,
-        understood: said.understood,
-        end: said.end,
+    Lent {
+        cells: RIGHT,
+        output: RIGHT,
+        buffer: RIGHT,
     }
 }
 
-// ---- all lines
-// `fresh ..`, `record`, and those.
-fn held_line(
-    state: Record,
-    what: &[u8],
-    line: &[u8],
-    from: usize,
-    cells: &mut [u8],
-    text: &mut [u8],
-    at: usize,
-) -> Answered
-    ensures { λ r. ⌜ RepliedAs (heldReply (now (what .entry)) state (now (cells .entry)) (now (line .entry)) from) state at (now (text .entry)) r (now (text .exit)) ⌝ }
-    ensures { λ _. ⌜ CellsAs (heldReply (now (what .entry)) state (now (cells .entry)) (now (line .entry)) from) (now (cells .entry)) (now (cells .exit)) ⌝ }
+// What is held before the first line: a fresh record for commands.
+pub fn start() -> Bench
+    ensures { λ r. ⌜ r ≡ atStart ⌝ }
 {
-    if words::is_name(what, b"fresh") {
-        return record_lines::fresh_line(state, line, from, cells, text, at);
+    Bench {
+        record: skelmarix::fresh(Kind::Command),
+        lent: all_right(),
+        numbered: false,
     }
-    if words::is_name(what, b"record") {
-        return record_lines::record_line(state, line, from, text, at);
-    }
-    unmoved_line(state, what, line, from, text, at)
 }
 
-// `message ..`, `page ..`, and those.
-fn word_line(
-    state: Record,
-    what: &[u8],
-    line: &[u8],
-    from: usize,
-    cells: &mut [u8],
-    text: &mut [u8],
-    at: usize,
-) -> Answered
-    ensures { λ r. ⌜ RepliedAs (wordReply (now (what .entry)) state (now (cells .entry)) (now (line .entry)) from) state at (now (text .entry)) r (now (text .exit)) ⌝ }
-    ensures { λ _. ⌜ CellsAs (wordReply (now (what .entry)) state (now (cells .entry)) (now (line .entry)) from) (now (cells .entry)) (now (cells .exit)) ⌝ }
+// A line that is understood, and what is held afterwards; and one that is not.
+pub(crate) fn answered(b: Bench, end: usize) -> Heard
+    ensures { λ r. ⌜ (r .bench ≡ b) × (r .understood ≡ true) ⌝ }
 {
-    if words::is_name(what, b"message") {
-        return take_lines::message_line(state, line, from, cells, text, at);
+    Heard {
+        bench: b,
+        understood: true,
+        end: end,
     }
-    if words::is_name(what, b"page") {
-        return take_lines::page_line(state, line, from, cells, text, at);
-    }
-    held_line(state, what, line, from, cells, text, at)
 }
 
-// Makes the call that a line asks for, and puts its answer behind what stands in the text up to `at`. The record comes back as the call
-// leaves it; a line that asks nothing, or is not understood, changes nothing.
-pub fn answer(line: &[u8], state: Record, cells: &mut [u8], text: &mut [u8], at: usize) -> Answered
-    ensures { λ r. ⌜ RepliedAs (reply (now (line .entry)) state (now (cells .entry))) state at (now (text .entry)) r (now (text .exit)) ⌝ }
-    ensures { λ _. ⌜ CellsAs (reply (now (line .entry)) state (now (cells .entry))) (now (cells .entry)) (now (cells .exit)) ⌝ }
+pub(crate) fn unanswered(b: Bench, at: usize) -> Heard
+    ensures { λ r. ⌜ (r .bench ≡ b) × (r .understood ≡ false) ⌝ }
 {
-    if is_silent(line) {
-        return Answered {
-            record: state,
-            understood: true,
-            end: at,
-        };
+    Heard {
+        bench: b,
+        understood: false,
+        end: at,
     }
-    let word = words::word_from(line, 0);
-    let start = word.start;
-    let end = word.end;
-    word_line(state, &line[start..end], line, end, cells, text, at)
 }

@@ -9,15 +9,15 @@ use lib.Seq.{getD-drop}
 use lib.Dec.{eqb, ltb}
 use borrow.Author.Needs.{needs}
 use borrow.Author.Tests.{lt-ltb, le-ltb, ltb-true, ltb-false, eq-eqb, ne-eqb, eqb-true}
-use Rattle.octets.specs.declared.Pair.{Pair}
+use Rattle.types.specs.declared.Pair.{Pair}
 use Rattle.octets.specs.Octets.{pairOf, placed, afterPut}
 use Rattle.octets.specs.Laws.{put-fits, placed-start, put-behind}
-use Rattle.packet.specs.declared.Kind.{Kind}
-use Rattle.packet.specs.declared.Kind.the-variants.{Command, Response}
-use Rattle.packet.specs.declared.Refusal.{Refusal}
+use Rattle.types.specs.declared.Kind.{Kind}
+use Rattle.types.specs.declared.Kind.the-variants.{Command, Response}
+use Rattle.types.specs.declared.Refusal.{Refusal}
 use Rattle.build.specs.declared.Ruling.{Ruling}
 use Rattle.build.specs.declared.Ruling.the-variants as ruling
-use Rattle.packet.specs.Refusals.{Outcome, refused, gives, refuse_when_otherwise_, numberOf, Lent, lent, writes}
+use Rattle.types.specs.Refusals.{Outcome, refused, gives, refuse_when_otherwise_, numberOf, Lent, lent, writes}
 use Rattle.packet.specs.Packets.{before, least, Fields, plain, ciphered, cipherBit, differ, behind, packetFrom, packetOf, isCiphered, againstSpi, misfit, building, built}
 use Rattle.packet.specs.Laws.{before-some, before-least, least-most}
 use Rattle.octets.specs.Tests.{neither}

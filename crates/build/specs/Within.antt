@@ -4,11 +4,11 @@ use mathlib.Core.Bool.{Bool, false, not, _||_}
 use mathlib.Core.List.{List}
 use lib.ListN.{length}
 use lib.Dec.{eqb, ltb}
-use Rattle.packet.specs.declared.Kind.{Kind}
-use Rattle.packet.specs.declared.Kind.the-variants.{Command, Response}
+use Rattle.types.specs.declared.Kind.{Kind}
+use Rattle.types.specs.declared.Kind.the-variants.{Command, Response}
 use Rattle.build.specs.declared.Ruling.{Ruling}
 use Rattle.build.specs.declared.Ruling.the-variants as ruling
-use Rattle.packet.specs.Refusals.{Outcome, refused, gives, refuse_when_otherwise_, numberOf, Lent, writes}
+use Rattle.types.specs.Refusals.{Outcome, refused, gives, refuse_when_otherwise_, numberOf, Lent, writes}
 use Rattle.packet.specs.Packets.{before, least, cipherBit, differ, mostOctets}
 
 -- 10 of a building, of the first octet behind the lengths

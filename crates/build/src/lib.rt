@@ -1,19 +1,20 @@
 // Building a packet into a lent buffer. Its head, the lengths and the fields that every packet of its kind and body has, is made as one array;
 // then head, check field and data, or head and opaque octets, are put one behind the other.
-use packet::Clear;
-use packet::Cntr;
-use packet::Kind;
-use packet::Refusal;
-use packet::Tar;
-use packet::Written;
 use packet::layout;
+use types::Clear;
+use types::Cntr;
+use types::Kind;
+use types::MOST_OCTETS;
+use types::Refusal;
+use types::Tar;
+use types::Written;
 ghost use mathlib.Core.Path.{_≡_};
 ghost use mathlib.Core.List.{_∷_, _++_};
 ghost use Prim.Native.Nat.{_+_, _-_, _%_, _≤_};
 ghost use lib.ListN.{length, getD, drop};
 ghost use lib.Dec.{ltb};
 ghost use Rattle.octets.specs.Octets.{pairOf, placed};
-ghost use Rattle.packet.specs.Refusals.{gives, lent, writes, toldWritten};
+ghost use Rattle.types.specs.Refusals.{gives, lent, writes, toldWritten};
 ghost use Rattle.packet.specs.Packets.{before, least, plain, ciphered, differ, mostOctets, packetFrom, built};
 ghost use Rattle.packet.specs.Told.{tarOctets, clearOctets, commandFixed, responseFixed};
 ghost use Rattle.build.specs.Within.{againstOctet, outside, toldRuling, ruled, tried};
@@ -51,10 +52,10 @@ fn over(head: usize, front: usize, back: usize) -> bool
     requires { ⌜ head ≤ 16 ⌝ }
     ensures { λ r. ⌜ r ≡ ltb mostOctets (head + (front + back)) ⌝ }
 {
-    if 2142 - head < front {
+    if MOST_OCTETS - head < front {
         return true;
     }
-    2142 - head - front < back
+    MOST_OCTETS - head - front < back
 }
 
 // Whether a packet is built, or how it is refused.
@@ -67,7 +68,7 @@ enum Ruling {
 fn rule(kind: Kind, buffer: usize, first: u8, ciphered: bool, misfit: bool, over: bool) -> Ruling
     ensures { λ r. ⌜ toldRuling r ≡ ruled buffer (againstOctet kind first ciphered) misfit over (gives 0) ⌝ }
 {
-    if buffer != 2142 {
+    if buffer != MOST_OCTETS {
         return Ruling::Refused(Refusal::BufferOrRecord);
     }
     if against(kind, first, ciphered) {

@@ -1,72 +1,72 @@
 // The examples of 01: for each its letter, a space, and the refusal number of its last call or 0. An example that says more than the number
 // is held to it, and prints `differs` where the library does otherwise.
 mod answers;
-mod make;
-mod one;
 mod parts;
-mod several;
+mod take;
 
-use crate::one::MESSAGE;
-use crate::one::PAGE;
+use crate::answers::Expected;
 use libc::STDOUT_FILENO;
 
 // The line of one example.
-fn line(letter: &[u8], number: u8) {
+fn line(letter: u8, number: u8) {
+    io::write_all(STDOUT_FILENO, &[letter, b' ']);
     if number == answers::DIFFERS {
-        io::write_all(STDOUT_FILENO, letter);
-        io::write_all(STDOUT_FILENO, b" differs\n");
+        io::write_all(STDOUT_FILENO, b"differs");
     } else {
-        report::number(letter, number as usize);
+        io::print_decimal(STDOUT_FILENO, number as u64);
     }
+    io::write_all(STDOUT_FILENO, b"\n");
 }
 
-// Examples a to d: a single message, alike but for the packet's lengths.
-fn lengths() {
-    line(b"a", one::m_handed_out(MESSAGE, &make::single(0x0E, 0x0D)));
-    line(b"b", one::number(MESSAGE, &make::single(0x0F, 0x0D)));
-    line(b"c", one::number(MESSAGE, &make::single(0x0E, 0x0C)));
-    line(b"d", one::number(MESSAGE, &make::single(0x0E, 0x0E)));
+// 02 70 00 M, but with this low octet of CPL and this CHL.
+fn single(cpl: u8, chl: u8) -> u8 {
+    let mut ud = *b"\x02\x70\x00\x00\x0E\x0D\x00\x00\x00\x00\xB0\x00\x10\x00\x00\x00\x00\x00\x00";
+    ud[4] = cpl;
+    ud[5] = chl;
+    take::message(&ud, Expected::Ended)
 }
 
-// Examples e to j: one message each.
+// The first n octets of 05 00 03 2A total 02.
+fn header(total: u8, n: usize, expected: Expected) -> u8 {
+    let ud = [0x05, 0x00, 0x03, 0x2A, total, 0x02];
+    take::message(skelmarix::up_to(&ud, n), expected)
+}
+
+// 07 00 03 2A 00 01 70 00 M.
+fn total_of_none() -> u8 {
+    let ud =
+        b"\x07\x00\x03\x2A\x00\x01\x70\x00\x00\x0E\x0D\x00\x00\x00\x00\xB0\x00\x10\x00\x00\x00\x00\x00\x00";
+    take::message(ud, Expected::Ended)
+}
+
+// Examples a to j: a message each.
 fn messages() {
-    line(b"e", one::number(MESSAGE, b""));
-    line(b"f", one::number(MESSAGE, &[0x00]));
-    line(b"g", one::number(MESSAGE, &[0x05, 0x00, 0x03, 0x2A, 0x02]));
-    line(
-        b"h",
-        one::second_kept(MESSAGE, &[0x05, 0x00, 0x03, 0x2A, 0x02, 0x02], 2, 0),
-    );
-    line(b"i", one::m_handed_out(MESSAGE, &make::total_of_none()));
-    line(
-        b"j",
-        one::number(MESSAGE, &[0x05, 0x00, 0x03, 0x2A, 0x11, 0x02]),
-    );
+    line(b'a', single(0x0E, 0x0D));
+    line(b'b', single(0x0F, 0x0D));
+    line(b'c', single(0x0E, 0x0C));
+    line(b'd', single(0x0E, 0x0E));
+    line(b'e', header(2, 0, Expected::Ended));
+    line(b'f', take::message(&[0x00], Expected::Ended));
+    line(b'g', header(2, 5, Expected::Ended));
+    line(b'h', header(2, 6, answers::second(2, 0)));
+    line(b'i', total_of_none());
+    line(b'j', header(0x11, 6, Expected::Ended));
 }
 
-// Examples k, l and L: packets that are split.
-fn splits() {
-    line(b"k", parts::one_or_two());
-    line(b"l", parts::sixteen());
-    line(b"L", parts::too_long());
-}
-
-// Examples m to o: one page each, alike but for the page parameter.
+// Examples m to p: pages.
 fn pages() {
-    line(
-        b"m",
-        one::second_kept(PAGE, &make::page(0x23, &make::M), 3, 82),
-    );
-    line(b"n", one::m_handed_out(PAGE, &make::page(0x30, &make::M)));
-    line(b"o", one::number(PAGE, &make::page(0x32, &make::M)));
+    line(b'm', take::page(0x23, answers::second(3, 82)));
+    line(b'n', take::page(0x30, Expected::Ended));
+    line(b'o', take::page(0x32, Expected::Ended));
+    line(b'p', take::too_short());
 }
 
 // Every line, in the order of 01.
 fn main() {
-    lengths();
     messages();
-    splits();
+    line(b'k', parts::one_or_two());
+    line(b'l', parts::sixteen());
+    line(b'L', parts::too_long());
     pages();
-    line(b"p", several::too_short());
-    line(b"q", several::displaced());
+    line(b'q', take::displaced());
 }

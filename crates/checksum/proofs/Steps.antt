@@ -11,12 +11,12 @@ use borrow.Author.Needs.{needs}
 use borrow.Author.Tests.{eq-eqb, ne-eqb}
 use Rattle.octets.specs.Octets.{placed, afterPut}
 use Rattle.octets.specs.Laws.{put-fits, placed-start, placed-next, placed-behind}
-use Rattle.packet.specs.declared.Kind.{Kind}
-use Rattle.packet.specs.declared.Kind.the-variants.{Command, Response}
-use Rattle.packet.specs.declared.Refusal.{Refusal}
+use Rattle.types.specs.declared.Kind.{Kind}
+use Rattle.types.specs.declared.Kind.the-variants.{Command, Response}
+use Rattle.types.specs.declared.Refusal.{Refusal}
 use Rattle.packet.specs.declared.read.Judged.{Judged}
 use Rattle.packet.specs.declared.read.Judged.the-variants as judged
-use Rattle.packet.specs.Refusals.{refused, gives, numberOf, Lent, lent, writes}
+use Rattle.types.specs.Refusals.{refused, gives, numberOf, Lent, lent, writes}
 use Rattle.packet.specs.Packets.{least, chl, readable, fixedOctets, withoutCheck, checksumOctets, checksummed}
 use Rattle.packet.specs.Laws.{Formed}
 use Rattle.packet.specs.Judging.{toldJudged, judged-formed, judged-header, judged-size, judged-readable, judged-refused}

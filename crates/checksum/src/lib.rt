@@ -1,20 +1,24 @@
 // The octets that a checksum covers, collected field by field into a lent buffer: of a response after the fixed octets 02 71 00 (000, 4.4;
 // 001, 4.5), and without the check field.
-use packet::Kind;
-use packet::Refusal;
-use packet::Written;
 use packet::layout;
 use packet::read;
 use packet::read::Judged;
+use types::Kind;
+use types::MOST_OCTETS;
+use types::Refusal;
+use types::Written;
 ghost use mathlib.Core.Path.{_≡_};
 ghost use mathlib.Core.List.{_++_};
 ghost use Prim.Native.Nat.{_+_, _-_, _≤_};
 ghost use lib.ListN.{length, drop};
 ghost use Rattle.octets.specs.Octets.{placed};
-ghost use Rattle.packet.specs.Refusals.{gives, lent, writes, toldWritten};
+ghost use Rattle.types.specs.Refusals.{gives, lent, writes, toldWritten};
 ghost use Rattle.packet.specs.Packets.{least, chl, cipheredCommand, fixedOctets, withoutCheck, checksummed};
 ghost use Rattle.packet.specs.Laws.{Formed};
 ghost use Rattle.checksum.specs.Within.{copied};
+
+// A packet, and the three fixed octets before it.
+const CHECKSUM_OCTETS: usize = MOST_OCTETS + 3;
 
 // Puts the octets that stand before the packet of a kind, and says how many they are.
 fn fixed(kind: Kind, out: &mut [u8]) -> usize
@@ -131,7 +135,7 @@ fn collect(kind: Kind, header: usize, packet: &[u8], out: &mut [u8]) -> Written
 fn checksum(kind: Kind, ciphered: bool, packet: &[u8], out: &mut [u8]) -> Written
     ensures { λ r. ⌜ lent (toldWritten r) (now (out .exit)) ≡ checksummed kind ciphered (now (packet .entry)) (now (out .entry)) ⌝ }
 {
-    if out.len() != 2145 {
+    if out.len() != CHECKSUM_OCTETS {
         return Written::Refused(Refusal::BufferOrRecord);
     }
     let judged = read::judge(kind, packet);

@@ -2,25 +2,22 @@
 use Prim.Native.Nat.{ℕ, _<_}
 use mathlib.Core.Path.{_≡_, refl, sym, ap, _∙_, subst}
 use mathlib.Core.Bool.{Bool, true, false, cond, not, _||_}
-use mathlib.Core.List.{List, [], _∷_, _++_}
-use native.Mathlib.Omega.{arith}
-use lib.ListN.{length, getD, drop, replicate, length-replicate, getD-replicate}
+use mathlib.Core.List.{List, [], _∷_}
+use lib.ListN.{length, drop}
 use borrow.Author.Tests.{eq-eqb, eqb-true, not-false}
 use lib.Dec.{eqb}
 use Rattle.octets.specs.Tests.{neither}
-use Rattle.packet.specs.declared.Kind.{Kind}
-use Rattle.packet.specs.Refusals as reading
+use Rattle.types.specs.declared.Kind.{Kind}
+use Rattle.types.specs.Refusals as reading
 use Rattle.packet.specs.Packets.{mostOctets}
-use Rattle.arrival.specs.declared.Key.{Key}
-use Rattle.arrival.specs.Arrivals.{Brought, single, part}
+use Rattle.types.specs.declared.Key.{Key}
+use Rattle.arrival.specs.Arrivals.{part}
 use Rattle.arrival.specs.Laws.{Admitted}
-use Rattle.slots.specs.declared.Slot.{Slot}
-use Rattle.slots.specs.Slots.{slotAt, freeSlot, freshRecord}
 use Rattle.formed.specs.Formed.{recordFormed}
 use Rattle.formed.specs.Laws.{Formed, formed-told, fresh-formed}
 use Rattle.series.specs.Cells.{cellsSize}
 use Rattle.series.specs.Taking.{State, After, state, refuse, unfit, taken, takeMessage, takePage}
-use Rattle.series.specs.KeepLaws.{Sound, SoundAfter, taken-sound, taken-kind}
+use Rattle.series.specs.KeepLaws.{Sound, taken-sound, taken-kind}
 use Rattle.series.specs.Calls.{Input, message, page, octetsOf, read, take}
 use Rattle.demands.specs.Always.{BringsOctets, AlwaysFormed, NoKeyTwice}
 use Rattle.demands.specs.Runs.{Call, Store, fresh, outcome, left, run, Octets, Proper, Each}

@@ -1,12 +1,6 @@
 -- 01's examples are right, by computing; only the lengths of cells and output are not written out.
-use mathlib.Core.Path.{_≡_, refl}
-use mathlib.Core.List.{List}
-use Prim.Native.Nat.{ℕ}
-use lib.ListN.{length}
 use Rattle.joined.specs.Fronts.{packetIn}
 use Rattle.demands.specs.Examples.{examples, Every, Right}
-use borrow.Author.Tests.{eq-eqb}
-use Rattle.octets.specs.Octets.{sameOctets, placed}
 use Rattle.header.specs.Header.{elementsAfter, summary}
 use Rattle.arrival.specs.Message.{judged, readMessage}
 use Rattle.arrival.specs.Page.{readPage}

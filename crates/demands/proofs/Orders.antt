@@ -7,10 +7,10 @@ use mathlib.Core.List.{List, [], _∷_, _++_}
 use native.Mathlib.Omega.{arith}
 use borrow.Author.Tests.{lt-ltb}
 use Rattle.octets.specs.Tests.{clash, both, by-test}
-use Rattle.packet.specs.declared.Kind.{Kind}
+use Rattle.types.specs.declared.Kind.{Kind}
 use Rattle.header.specs.declared.Concatenation.{Concatenation}
 use Rattle.header.specs.Header.{Item, has, isConcatenation, wrongLength, concatenationIn, anyOf, count, lastConcatenation, noConcatenation, summary}
-use Rattle.packet.specs.Refusals.{refused}
+use Rattle.types.specs.Refusals.{refused}
 use Rattle.arrival.specs.Message.{afterHeader, judged, readMessage}
 use Rattle.demands.specs.Orders.{Reordered, as-they-are, swapped, and-then, OrderFree}
 

@@ -2,34 +2,34 @@
 use Prim.Native.Nat.{ℕ, _<_}
 use mathlib.Core.Path.{_≡_, refl, sym, ap, subst}
 use mathlib.Core.Bool.{Bool, true, false}
-use mathlib.Core.List.{List, [], _∷_, _++_, nil≢cons, head-eq-of-cons-eq, tail-eq-of-cons-eq}
+use mathlib.Core.List.{List, [], _∷_, nil≢cons, head-eq-of-cons-eq, tail-eq-of-cons-eq}
 use native.Mathlib.Omega.{arith}
-use lib.ListN.{length, getD, drop, replicate, length-replicate, getD-replicate, List·getD-eq-default}
+use lib.ListN.{length, getD, replicate, length-replicate, getD-replicate, List·getD-eq-default}
 use lib.Dec.{ltb}
 use borrow.Author.Tests.{ltb-true, ltb-false}
 use Rattle.octets.specs.Octets.{sameOctets, placed}
 use Rattle.octets.specs.Joined.{joined}
-use Rattle.packet.specs.declared.Kind.{Kind}
-use Rattle.packet.specs.declared.Kind.the-variants.{Command}
-use Rattle.packet.specs.Refusals as reading
+use Rattle.types.specs.declared.Kind.{Kind}
+use Rattle.types.specs.declared.Kind.the-variants.{Command}
+use Rattle.types.specs.Refusals as reading
 use Rattle.packet.specs.Packets.{mostOctets}
-use Rattle.arrival.specs.declared.Key.{Key}
+use Rattle.types.specs.declared.Key.{Key}
 use Rattle.arrival.specs.Arrivals.{part}
 use Rattle.header.specs.Header.{elementsAfter, summary}
 use Rattle.arrival.specs.Message.{judged, readMessage}
 use Rattle.arrival.specs.Keys.{keyFormed, lengthFits}
 use Rattle.joined.specs.Fronts.{packetIn}
-use Rattle.slots.specs.declared.Slot.{Slot}
+use Rattle.types.specs.declared.Slot.{Slot}
 use Rattle.slots.specs.Below.{allBelow, anyBelow, countBelow}
 use Rattle.slots.specs.BelowLaws.{all-at}
 use Rattle.slots.specs.Slots.{slotCount, slotAt, freeSlot, find, aged, closed, toFront, freed}
 use Rattle.formed.specs.Formed.{allZero, usedFormed, slotFormed, keysDiffer, ranked, slotsFormed}
 use Rattle.series.specs.Cells.{cellsSize, cellPart, joinedOctets}
-use Rattle.series.specs.Taking.{step, takePart, takeMessage, packet, kept}
-use Rattle.series.specs.Calls.{read, octetsOf}
+use Rattle.series.specs.Taking.{step, takePart, takeMessage, packet}
+use Rattle.series.specs.Calls.{read}
 use Rattle.demands.specs.Examples.{M}
 use Rattle.demands.specs.Runs.{Call, fresh, outcome, run, Octets, Proper, Each}
-use Rattle.demands.specs.Wake.{messages, complete, Seen, seen, follow, EachWith, Fair, Start, begin}
+use Rattle.demands.specs.Wake.{messages, complete, Seen, seen, follow, EachWith, Fair, begin}
 use Rattle.demands.specs.Reached.{key, halves, call, first, second, other, cells, two, Met, Missed}
 
 -- ---- a list that is written out, call by call

@@ -1,6 +1,6 @@
 -- A refused call leaves everything as it was, but for the one exception: by cases of what a call comes to.
 use Prim.Native.Nat.{ℕ, _<_}
-use mathlib.Core.Path.{_≡_, refl, sym, ap, _∙_, subst}
+use mathlib.Core.Path.{_≡_, refl, sym, subst}
 use mathlib.Core.Bool.{Bool, true, false, not, cond, _||_}
 use mathlib.Core.List.{List, []}
 use mathlib.Core.Option.{Option, none, some}
@@ -9,24 +9,22 @@ use lib.ListN.{length, drop}
 use lib.Dec.{eqb, ltb}
 use borrow.Author.Tests.{not-false}
 use Rattle.octets.specs.Tests.{neither}
-use Rattle.packet.specs.declared.Kind.{Kind}
-use Rattle.packet.specs.Refusals as outcome
-use Rattle.packet.specs.Refusals.{refuse_when_otherwise_}
-use Rattle.packet.specs.Packets.{Fields, wellFormed, mostOctets, mostChecksum, into, building, built, checksumOctets, checksummed, parsing, readable, shown, securedOf, checkOf, opaqueOf, fieldsOf, measured, shownData, shownCheck, shownOpaque}
-use Rattle.arrival.specs.declared.Key.{Key}
+use Rattle.types.specs.Refusals as outcome
+use Rattle.types.specs.Refusals.{refuse_when_otherwise_}
+use Rattle.packet.specs.Packets.{wellFormed, mostOctets, mostChecksum, into, building, built, checksumOctets, checksummed, parsing, readable, shown, securedOf, checkOf, opaqueOf, fieldsOf, measured, shownData, shownCheck, shownOpaque}
+use Rattle.types.specs.declared.Key.{Key}
 use Rattle.arrival.specs.Arrivals.{Brought, single, part}
 use Rattle.arrival.specs.Keys.{ofPages}
 use Rattle.joined.specs.Fronts.{packetIn}
-use Rattle.slots.specs.declared.Record.{Record}
 use Rattle.slots.specs.Slots.{slotAt, freed, withSlots}
 use Rattle.formed.specs.Formed.{recordFormed}
 use Rattle.formed.specs.Laws.{Formed, formed-tells}
 use Rattle.series.specs.Cells.{cellsSize, joinedOctets}
-use Rattle.series.specs.Taking.{State, After, Answer, kept, heldAlready, packet, refused, Step, handOut, acted, step, takePart, taken, unfit, refuse}
+use Rattle.series.specs.Taking.{State, After, kept, heldAlready, packet, refused, Step, handOut, acted, step, takePart, taken, unfit, refuse}
 use Rattle.series.specs.CaseLaws.{Case, other-total, other-octets, again, last, more, opens, displaces, case-of}
 use Rattle.series.specs.Calls.{Input, octetsOf, read, take}
 use Rattle.split.specs.Splitting as split
-use Rattle.demands.specs.Refusing.{Leaves, unaltered, dropped, TakingRefused, BuildingRefused, ChecksumRefused, WritingRefused, PageRefused, NothingShown, ParsingRefused}
+use Rattle.demands.specs.Refusing.{Leaves, unaltered, dropped, TakingRefused, BuildingRefused, ChecksumRefused, WritingRefused, PageRefused, ParsingRefused}
 use Rattle.demands.proofs.Calls.{isPage, taking-any}
 
 -- ---- taking

@@ -2,15 +2,14 @@
 use Prim.Native.Nat.{ℕ}
 use mathlib.Core.Path.{_≡_, refl}
 use mathlib.Core.Bool.{Bool, true, false, not}
-use mathlib.Core.List.{List}
 use Prim.Native.Nat.{_≤_}
 use lib.ListN.{length}
 use lib.Dec.{ltb}
 use borrow.Author.Tests.{lt-ltb, le-ltb, ltb-false}
 use native.Mathlib.Omega.{arith}
-use Rattle.packet.specs.declared.Kind.{Kind}
-use Rattle.packet.specs.declared.Kind.the-variants.{Command, Response}
-use Rattle.packet.specs.Refusals.{gives, refuse_when_otherwise_}
+use Rattle.types.specs.declared.Kind.{Kind}
+use Rattle.types.specs.declared.Kind.the-variants.{Command, Response}
+use Rattle.types.specs.Refusals.{gives, refuse_when_otherwise_}
 use Rattle.packet.specs.Packets.{mostOctets, wellFormed, Fields, fieldsOf, measured, parsing, packetOf, building, cipheredCommand}
 use Rattle.packet.specs.Laws.{built-formed, built-cipher, built-parsed, built-data, built-check, built-opaque, read-built}
 use Rattle.split.specs.Laws.{parts-join, pages-join}

@@ -1,31 +1,31 @@
 -- From splitting to taking: each part that was written is read as that part, so the premises of the wake window hold of the parts.
 use Prim.Native.Nat.{ℕ, zero, suc, _+_, _-_, _*_, _≤_, _<_}
 use mathlib.Core.Path.{_≡_, refl, sym, ap, _∙_, subst}
-use mathlib.Core.Bool.{Bool, true, false, _&&_, _||_}
+use mathlib.Core.Bool.{true, false}
 use mathlib.Core.List.{List, [], _∷_, _++_}
 use native.Mathlib.Omega.{arith}
 use lib.ListN.{length, getD, drop, replicate, length-append, List·getD-append}
 use lib.Seq.{getD-at}
-use lib.Dec.{eqb, ltb}
-use borrow.Author.Tests.{le-leb, eqb-true, ne-eqb}
+use lib.Dec.{eqb}
+use borrow.Author.Tests.{le-leb, ne-eqb}
 use Rattle.octets.specs.Joined.{joined}
-use Rattle.octets.specs.Tests.{clash, both, Same, same, other, same?}
-use Rattle.packet.specs.declared.Kind.{Kind}
-use Rattle.packet.specs.declared.Kind.the-variants.{Command}
-use Rattle.packet.specs.Refusals as reading
+use Rattle.octets.specs.Tests.{clash, Same, same, other, same?}
+use Rattle.types.specs.declared.Kind.{Kind}
+use Rattle.types.specs.declared.Kind.the-variants.{Command}
+use Rattle.types.specs.Refusals as reading
 use Rattle.packet.specs.Packets.{wellFormed}
 use Rattle.packet.specs.Laws.{formed-facts}
-use Rattle.arrival.specs.declared.Key.{Key}
+use Rattle.types.specs.declared.Key.{Key}
 use Rattle.arrival.specs.Arrivals.{part}
-use Rattle.arrival.specs.Page.{pageContent, pageHeader, pageKey, identifierInRange}
-use Rattle.arrival.specs.Keys.{ofPages, referenceFits}
+use Rattle.arrival.specs.Page.{pageContent, pageHeader, pageKey}
+use Rattle.arrival.specs.Keys.{referenceFits}
 use Rattle.series.specs.Calls.{Input, message, page, read, octetsOf}
 use Rattle.split.specs.Splitting as split
-use Rattle.split.specs.Laws.{parts-join, padded, pages-join, page-begins, page-ends}
+use Rattle.split.specs.Laws.{parts-join, pages-join, page-begins, page-ends}
 use Rattle.split.specs.ReadBack.{ownFrom, read-part, own-octets, read-page, content-octets}
 use Rattle.demands.specs.Runs.{Call, fresh, run}
-use Rattle.demands.specs.Wake.{concat, Cut, messages, pages, complete, Seen, nothingSeen, follow, EachWith, Fair, Start, Comes}
-use Rattle.demands.specs.SplitTaken.{listed, Sent, Sending, Arrives, keyOf, MessagesArrive, PagesArrive}
+use Rattle.demands.specs.Wake.{concat, Cut, messages, pages, complete, Seen, nothingSeen, follow, EachWith, Fair}
+use Rattle.demands.specs.SplitTaken.{listed, Sent, Arrives, keyOf, MessagesArrive, PagesArrive}
 use Rattle.demands.proofs.Lists.{concat-last}
 use Rattle.demands.proofs.Wake.{packet-comes}
 

@@ -4,45 +4,43 @@ use mathlib.Core.Path.{_≡_, refl, sym, ap, _∙_}
 use mathlib.Core.List.{List, [], _∷_}
 use mathlib.Core.Option.{Option, none, some}
 use lib.ListN.{getD}
-use Rattle.packet.specs.declared.Refusal.{Refusal}
-use Rattle.packet.specs.declared.Refusal.the-variants.{BufferOrRecord, Size, Header, Element, Identifier, Total, OtherTotal, OtherOctets, NotWellFormed, Cipher, HeaderLength, PacketLength, Reference, Number}
-use Rattle.packet.specs.declared.Tar.{Tar}
-use Rattle.packet.specs.declared.Cntr.{Cntr}
-use Rattle.packet.specs.declared.Clear.{Clear}
-use Rattle.packet.specs.declared.Command.{Command}
-use Rattle.packet.specs.declared.Response.{Response}
-use Rattle.packet.specs.declared.CommandBody.{CommandBody}
-use Rattle.packet.specs.declared.CommandBody.the-variants as command
-use Rattle.packet.specs.declared.ResponseBody.{ResponseBody}
-use Rattle.packet.specs.declared.ResponseBody.the-variants as response
-use Rattle.packet.specs.declared.ParsedCommand.{ParsedCommand}
-use Rattle.packet.specs.declared.ParsedCommand.the-variants as parsedCommand
-use Rattle.packet.specs.declared.ParsedResponse.{ParsedResponse}
-use Rattle.packet.specs.declared.ParsedResponse.the-variants as parsedResponse
-use Rattle.packet.specs.declared.Written.{Written}
-use Rattle.packet.specs.declared.Written.the-variants as written
-use Rattle.packet.specs.Refusals.{Outcome, refused, gives, Lent, numberOf, toldWritten}
+use Rattle.types.specs.declared.Refusal.{Refusal}
+use Rattle.types.specs.declared.Refusal.the-variants.{BufferOrRecord, Size, Header, Element, Identifier, Total, OtherTotal, OtherOctets, NotWellFormed, Cipher, HeaderLength, PacketLength, Reference, Number}
+use Rattle.types.specs.declared.Tar.{Tar}
+use Rattle.types.specs.declared.Cntr.{Cntr}
+use Rattle.types.specs.declared.Clear.{Clear}
+use Rattle.types.specs.declared.CommandBody.{CommandBody}
+use Rattle.types.specs.declared.CommandBody.the-variants as command
+use Rattle.types.specs.declared.ResponseBody.{ResponseBody}
+use Rattle.types.specs.declared.ResponseBody.the-variants as response
+use Rattle.types.specs.declared.ParsedCommand.{ParsedCommand}
+use Rattle.types.specs.declared.ParsedCommand.the-variants as parsedCommand
+use Rattle.types.specs.declared.ParsedResponse.{ParsedResponse}
+use Rattle.types.specs.declared.ParsedResponse.the-variants as parsedResponse
+use Rattle.types.specs.declared.Written.{Written}
+use Rattle.types.specs.declared.Written.the-variants as written
+use Rattle.types.specs.Refusals.{Outcome, refused, gives, Lent, numberOf}
 use Rattle.packet.specs.Packets.{Parsed, plainParsed, cipheredParsed}
 use Rattle.packet.specs.declared.read.Judged.{Judged}
 use Rattle.packet.specs.declared.read.Judged.the-variants as judged
 use Rattle.packet.specs.Told.{toldCommand, toldResponse}
 use Rattle.packet.specs.Judging.{toldJudged}
-use Rattle.arrival.specs.declared.Arrival.{Arrival}
-use Rattle.arrival.specs.declared.Arrival.the-variants as arrival
+use Rattle.types.specs.declared.Arrival.{Arrival}
+use Rattle.types.specs.declared.Arrival.the-variants as arrival
 use Rattle.arrival.specs.Arrivals.{Brought, single, part, toldArrival}
 use Rattle.joined.specs.declared.Size as joined
 use Rattle.joined.specs.Fronts.{toldSize}
 use Rattle.slots.specs.declared.find.Found.{Found}
 use Rattle.slots.specs.declared.find.Found.the-variants as found
 use Rattle.slots.specs.Found.{toldFound}
-use Rattle.series.specs.declared.Answer.{Answer}
-use Rattle.series.specs.declared.Answer.the-variants as answer
-use Rattle.series.specs.declared.Taken.{Taken}
+use Rattle.types.specs.declared.Answer.{Answer}
+use Rattle.types.specs.declared.Answer.the-variants as answer
+use Rattle.types.specs.declared.Taken.{Taken}
 use Rattle.series.specs.Taking as taking
-use Rattle.split.specs.declared.WrittenPart.{WrittenPart}
-use Rattle.split.specs.declared.WrittenPart.the-variants as writtenPart
+use Rattle.types.specs.declared.WrittenPart.{WrittenPart}
+use Rattle.types.specs.declared.WrittenPart.the-variants as writtenPart
 use Rattle.split.specs.Splitting as split
-use Rattle.demands.specs.Tightness.{Tight, toldBuilt, toldPart, toldTaken, Promises, PlainPromises}
+use Rattle.demands.specs.Tightness.{Tight, toldBuilt, toldPart, toldHanded, toldTaken, Promises, PlainPromises}
 
 -- what can be read back is told of one outcome only
 tight : {O P : Type 0} (told : O → P) (back : P → O) → ((r : O) → back (told r) ≡ r) → Tight told
@@ -188,6 +186,13 @@ unfolding sizeOf
 size-back (joined.the-variants.Octets n) = refl
 size-back joined.the-variants.None = refl
 
+handedOf : Option ℕ × List ℕ → joined.Size × List ℕ
+handedOf (o, b) = (sizeOf o, b)
+
+handed-back : (r : joined.Size × List ℕ) → handedOf (toldHanded r) ≡ r
+unfolding handedOf
+handed-back (r, b) = ap (λ (x : joined.Size). (x, b)) (size-back r)
+
 foundOf : Option ℕ → Found
 foundOf none = found.Nothing
 foundOf (some i) = found.At i
@@ -208,6 +213,7 @@ promises = record {
   write-message-and-page = tight toldPart partOf part-back;
   judge = tight toldJudged judgedOf judged-back;
   packet-size = tight toldSize sizeOf size-back;
+  hand-out = tight toldHanded handedOf handed-back;
   find-key = tight toldFound foundOf found-back;
 }
 

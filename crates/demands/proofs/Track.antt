@@ -1,32 +1,32 @@
 -- The proof's invariant: what is known of the slot that bears the key while its parts come, and how a call with another key moves it.
-use Prim.Native.Nat.{ℕ, zero, suc, _+_, _-_, _≤_, _<_}
-use mathlib.Core.Path.{_≡_, refl, sym, ap, _∙_, subst}
-use mathlib.Core.Logic.{_⊎_, inl, inr, ⊎-elim}
+use Prim.Native.Nat.{ℕ, _+_, _-_, _≤_, _<_}
+use mathlib.Core.Path.{_≡_, refl, sym, ap, _∙_}
+use mathlib.Core.Logic.{inr}
 use mathlib.Core.Bool.{Bool, true, false, cond, not, _&&_, _||_}
-use mathlib.Core.List.{List, [], _∷_, _++_}
+use mathlib.Core.List.{List, []}
 use native.Mathlib.Omega.{arith}
-use lib.ListN.{length, getD, set}
+use lib.ListN.{length, getD}
 use lib.Seq.{getD-set-same, getD-set-other}
 use lib.Dec.{eqb, ltb, leb}
-use borrow.Author.Tests.{eqb-true, eq-eqb, ne-eqb, leb-true, leb-false}
+use borrow.Author.Tests.{eqb-true, ne-eqb, leb-true, leb-false}
 use Rattle.octets.specs.Octets.{placed}
-use Rattle.octets.specs.Tests.{clash, both, Same, same, other, same?}
-use Rattle.packet.specs.declared.Kind.{Kind}
-use Rattle.arrival.specs.declared.Key.{Key}
+use Rattle.octets.specs.Tests.{both, Same, same, other, same?}
+use Rattle.types.specs.declared.Kind.{Kind}
+use Rattle.types.specs.declared.Key.{Key}
 use Rattle.arrival.specs.Message.{mostParts}
 use Rattle.arrival.specs.Keys.{lengthFits}
-use Rattle.slots.specs.declared.Slot.{Slot}
-use Rattle.slots.specs.Slots.{slotAt, freeSlot, opened, atRank, heldAt, lengthAt, withPart, aged, closed, toFront, freed}
-use Rattle.formed.specs.Formed.{markAt, sizeAt, partFormed}
-use Rattle.slots.specs.RankLaws.{Aged, free, moves, yields, stays, aged?, aged-taken, closed-taken, closed-near, closed-far, pos-taken}
-use Rattle.slots.specs.FrontLaws.{front-here, front-there, freed-here, freed-there}
-use Rattle.formed.specs.Laws.{Formed, UsedSlot, slot-tells}
+use Rattle.types.specs.declared.Slot.{Slot}
+use Rattle.slots.specs.Slots.{slotAt, atRank, heldAt, lengthAt, withPart, aged, closed, toFront}
+use Rattle.formed.specs.Formed.{markAt, sizeAt}
+use Rattle.slots.specs.RankLaws.{Aged, free, moves, yields, stays, aged?, closed-near, closed-far, pos-taken}
+use Rattle.slots.specs.FrontLaws.{front-here}
+use Rattle.formed.specs.Laws.{UsedSlot}
 use Rattle.series.specs.Cells.{cellOctets, cellsSize, cellAt, cellPart}
 use Rattle.series.specs.CellLaws.{part-by-length, cell-here, cell-there}
 use Rattle.series.specs.CaseLaws.{Bears, Lacks}
 use Rattle.series.specs.KeepLaws.{short}
-use Rattle.demands.specs.Wake.{elem, elemKey, add, addKey}
-use Rattle.demands.proofs.Lists.{elem-add, elem-key-add, elem-key-self}
+use Rattle.demands.specs.Wake.{elem, elemKey, add}
+use Rattle.demands.proofs.Lists.{elem-add}
 
 -- ---- ranks keep their order
 pub aged-mono : (r p q : ℕ) → p ≤ q → aged r p ≤ aged r q

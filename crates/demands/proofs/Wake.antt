@@ -1,31 +1,30 @@
 -- The wake window: the invariant holds from call to call, so each call with the key is served.
-use Prim.Native.Nat.{ℕ, suc, _+_, _-_, _≤_, _<_}
+use Prim.Native.Nat.{ℕ, _+_, _-_, _≤_, _<_}
 use mathlib.Core.Path.{_≡_, refl, sym, ap, _∙_, subst}
-use mathlib.Core.Bool.{Bool, true, false, cond, _||_}
+use mathlib.Core.Bool.{Bool, true, false, _||_}
 use mathlib.Core.List.{List, [], _∷_, _++_}
 use mathlib.Core.Option.{Option, none, some}
 use native.Mathlib.Omega.{arith}
 use lib.ListN.{length, getD, drop}
 use lib.Dec.{eqb}
 use Rattle.octets.specs.Tests.{clash}
-use Rattle.packet.specs.declared.Kind.{Kind}
-use Rattle.packet.specs.Refusals as reading
-use Rattle.packet.specs.Packets.{mostOctets, wellFormed}
-use Rattle.arrival.specs.declared.Key.{Key}
+use Rattle.types.specs.declared.Kind.{Kind}
+use Rattle.types.specs.Refusals as reading
+use Rattle.packet.specs.Packets.{wellFormed}
+use Rattle.types.specs.declared.Key.{Key}
 use Rattle.arrival.specs.Arrivals.{Brought, single, part}
 use Rattle.arrival.specs.Laws.{Admitted, message-part, page-part}
 use Rattle.joined.specs.Fronts.{packetIn}
 use Rattle.slots.specs.BelowLaws.{all-at, all-hold}
 use Rattle.slots.specs.Slots.{sameKey}
-use Rattle.series.specs.Taking.{State, After, state, handOut, acted, step, takePart, taken}
+use Rattle.series.specs.Taking.{State, After, state, handOut, step, takePart, taken}
 use Rattle.series.specs.Calls.{Input, message, page, read, octetsOf}
-use Rattle.series.specs.CaseLaws.{Lacks, Case, case-of}
+use Rattle.series.specs.CaseLaws.{Case, case-of}
 use Rattle.slots.specs.FrontLaws.{same-key, key-same}
 use Rattle.formed.specs.Laws.{Formed}
-use Rattle.series.specs.KeepLaws.{Sound}
-use Rattle.slots.specs.declared.Record.{Record}
-use Rattle.demands.specs.Runs.{Call, Store, outcome, left, Octets, Proper, Each}
-use Rattle.demands.specs.Wake.{Cut, elem, add, addKey, complete, counts, Seen, seenPart, seenAfter, seen, follow, EachWith, Fair, Repeated, Waits, Wakes, Served, Start, begin, WakeWindow, Comes, PacketComes}
+use Rattle.types.specs.declared.Record.{Record}
+use Rattle.demands.specs.Runs.{Call, outcome, left, Octets, Proper, Each}
+use Rattle.demands.specs.Wake.{Cut, elem, add, complete, Seen, seenPart, seenAfter, seen, follow, EachWith, Fair, Wakes, Served, begin, WakeWindow, PacketComes}
 use Rattle.demands.proofs.Lists.{elem-add, add-old}
 use Rattle.demands.proofs.Calls.{isPage, taking, Kept, Admits, kept-proper, kept-fresh}
 use Rattle.demands.proofs.Window.{Phase, before, during, done, other-part, Serves, fine-known, fine-first}

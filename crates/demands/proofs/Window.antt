@@ -1,42 +1,41 @@
 -- The wake window, call by call: what a call with another key leaves of the key's series, and what a call with the key itself comes to.
-use Prim.Native.Nat.{ℕ, zero, suc, _+_, _-_, _≤_, _<_}
+use Prim.Native.Nat.{ℕ, suc, _+_, _-_, _≤_, _<_}
 use mathlib.Core.Path.{_≡_, refl, sym, ap, _∙_, subst}
-use mathlib.Core.Logic.{_⊎_, inl, inr, ⊎-elim}
-use mathlib.Core.Bool.{Bool, true, false, cond, not, _&&_, _||_}
-use mathlib.Core.List.{List, [], _∷_, _++_}
+use mathlib.Core.Logic.{inl, ⊎-elim}
+use mathlib.Core.Bool.{Bool, true, false, cond, _||_}
+use mathlib.Core.List.{List, [], _++_}
 use mathlib.Core.Option.{Option, none, some}
 use native.Mathlib.Omega.{arith}
-use lib.ListN.{length, getD, take, drop, List·getD-append, length-replicate, getD-replicate}
+use lib.ListN.{length, getD, List·getD-append, length-replicate, getD-replicate}
 use lib.Seq.{take-append-seam}
-use lib.Dec.{eqb, ltb, leb}
-use borrow.Author.Tests.{eqb-true, eq-eqb, ne-eqb, leb-true}
+use lib.Dec.{eqb}
+use borrow.Author.Tests.{ne-eqb}
 use Rattle.octets.specs.Octets.{placed}
-use Rattle.octets.specs.Tests.{clash, both, Same, same, other, same?}
-use Rattle.packet.specs.declared.Kind.{Kind}
+use Rattle.octets.specs.Tests.{clash, Same, same, other, same?}
+use Rattle.types.specs.declared.Kind.{Kind}
 use Rattle.packet.specs.Packets.{cpl, wellFormed}
 use Rattle.packet.specs.Laws.{formed-facts}
-use Rattle.arrival.specs.declared.Key.{Key}
+use Rattle.types.specs.declared.Key.{Key}
 use Rattle.arrival.specs.Message.{mostParts}
 use Rattle.arrival.specs.Keys.{ofPages}
 use Rattle.arrival.specs.Laws.{Admitted}
 use Rattle.joined.specs.Fronts.{packetIn}
-use Rattle.slots.specs.declared.Slot.{Slot}
-use Rattle.slots.specs.Below.{allBelow}
+use Rattle.types.specs.declared.Slot.{Slot}
 use Rattle.slots.specs.BelowLaws.{all-at, all-same, count-at-most}
-use Rattle.slots.specs.Slots.{slotAt, freeSlot, opened, used, atRank, heldAt, lengthAt, withPart, withSlots, aged, closed, toFront, freed}
+use Rattle.slots.specs.Slots.{slotAt, opened, used, atRank, heldAt, lengthAt, withPart, withSlots, aged, closed, toFront, freed}
 use Rattle.formed.specs.Formed.{markAt}
 use Rattle.slots.specs.RankLaws.{taken, pos-taken, aged-taken, closed-taken, rank-bound, ranks-differ}
 use Rattle.slots.specs.FrontLaws.{front-here, front-there, freed-here, freed-there}
 use Rattle.formed.specs.Laws.{Formed, UsedSlot, slot-tells}
 use Rattle.series.specs.PartLaws.{total-bounds}
-use Rattle.series.specs.Cells.{cellOctets, cellsSize, cellAt, cellPart, joined, partOf, joinedOctets}
+use Rattle.series.specs.Cells.{cellOctets, cellsSize, cellAt, cellPart, partOf, joinedOctets}
 use Rattle.series.specs.CellLaws.{part-by-length, cell-there}
-use Rattle.series.specs.Taking.{State, After, state, Step, refuses, repeats, keeps, finishes, completes, acted, handOut}
+use Rattle.series.specs.Taking.{State, After, state, Step, repeats, keeps, finishes, completes, acted, handOut}
 use Rattle.series.specs.CaseLaws.{Bears, Lacks, Case, other-total, other-octets, again, last, more, opens, displaces}
-use Rattle.series.specs.KeepLaws.{Sound, short}
-use Rattle.demands.specs.Runs.{Call, Store}
+use Rattle.series.specs.KeepLaws.{short}
+use Rattle.demands.specs.Runs.{Call}
 use Rattle.demands.specs.Wake.{concat, Cut, messages, pages, elem, elemKey, add, addKey, complete, counts, Seen, Repeated, Waits, Wakes}
-use Rattle.demands.proofs.Lists.{elem-add, add-old, add-not-nil, complete-add, one-short, elem-key-add, elem-key-self, length-add-key, pigeon, joined-parts}
+use Rattle.demands.proofs.Lists.{add-old, add-not-nil, complete-add, one-short, elem-key-add, elem-key-self, length-add-key, pigeon, joined-parts}
 use Rattle.demands.proofs.Track.{aged-mono, closed-mono, length-short, Track, lacks-moved, track-moved, track-again, track-kept}
 
 -- ---- the packet that the parts hold

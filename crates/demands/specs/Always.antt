@@ -3,7 +3,7 @@ use Prim.Native.Nat.{ℕ, _<_}
 use mathlib.Core.Path.{_≡_}
 use mathlib.Core.Bool.{true}
 use mathlib.Core.List.{List}
-use Rattle.packet.specs.declared.Kind.{Kind}
+use Rattle.types.specs.declared.Kind.{Kind}
 use Rattle.slots.specs.Slots.{slotAt}
 use Rattle.formed.specs.Formed.{recordFormed}
 use Rattle.series.specs.Calls.{octetsOf}

@@ -1,19 +1,18 @@
 -- 01's examples marked P ("Examples on both sides"): one list of pairs, a call and all that comes of it, with a single claim about every entry.
 -- Each starts from a fresh record for commands; cells and output hold anything.
-use Prim.Native.Nat.{ℕ, _+_}
-use mathlib.Core.Path.{_≡_, refl}
+use Prim.Native.Nat.{ℕ}
+use mathlib.Core.Path.{_≡_}
 use mathlib.Core.Bool.{Bool, true, false}
 use mathlib.Core.List.{List, [], _∷_, _++_}
 use lib.ListN.{length, drop, replicate, set}
 use Rattle.octets.specs.Octets.{placed}
-use Rattle.packet.specs.declared.Kind.the-variants.{Command}
+use Rattle.types.specs.declared.Kind.the-variants.{Command}
 use Rattle.packet.specs.Packets.{mostOctets}
-use Rattle.arrival.specs.declared.Key.{Key}
-use Rattle.slots.specs.declared.Slot.{Slot}
-use Rattle.slots.specs.declared.Record.{Record}
+use Rattle.types.specs.declared.Slot.{Slot}
+use Rattle.types.specs.declared.Record.{Record}
 use Rattle.slots.specs.Slots.{slotCount, freeSlot, freshRecord}
 use Rattle.series.specs.Cells.{cellsSize}
-use Rattle.series.specs.Taking.{State, After, Answer, kept, packet, refused, state, after}
+use Rattle.series.specs.Taking.{After, kept, packet, refused, state, after}
 use Rattle.series.specs.Calls.{Input, message, page, take}
 
 -- "Let M be 00 0E 0D, then thirteen octets 00 00 00 00 B0 00 10 00 00 00 00 00 00: sixteen in all." CPL and CHL are given, since b, c and d

@@ -4,7 +4,7 @@ use mathlib.Core.List.{List, _∷_, _++_}
 use mathlib.Core.Option.{some}
 use mathlib.Core.Path.{_≡_}
 use lib.ListN.{length}
-use Rattle.packet.specs.declared.Kind.{Kind}
+use Rattle.types.specs.declared.Kind.{Kind}
 use Rattle.header.specs.Header.{Item, elements}
 use Rattle.arrival.specs.Message.{udhl, headerOctets, readMessage}
 

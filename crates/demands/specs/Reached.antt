@@ -2,18 +2,18 @@
 -- and does not with three. Buffers are filled with any octet.
 use Prim.Native.Nat.{ℕ}
 use mathlib.Core.Path.{_≡_}
-use mathlib.Core.Bool.{true, false}
-use mathlib.Core.List.{List, [], _∷_, _++_}
-use lib.ListN.{length, take, drop, replicate}
-use Rattle.packet.specs.declared.Kind.the-variants.{Command}
+use mathlib.Core.Bool.{true}
+use mathlib.Core.List.{List, [], _∷_}
+use lib.ListN.{take, drop, replicate}
+use Rattle.types.specs.declared.Kind.the-variants.{Command}
 use Rattle.packet.specs.Packets.{mostOctets}
-use Rattle.arrival.specs.declared.Key.{Key}
+use Rattle.types.specs.declared.Key.{Key}
 use Rattle.slots.specs.Slots.{slotCount}
 use Rattle.series.specs.Cells.{cellsSize}
-use Rattle.series.specs.Taking.{After, Answer, kept, packet}
+use Rattle.series.specs.Taking.{kept, packet}
 use Rattle.series.specs.Calls.{message}
 use Rattle.demands.specs.Examples.{M}
-use Rattle.demands.specs.Runs.{Call, Store, fresh, outcome, run}
+use Rattle.demands.specs.Runs.{Call, fresh, outcome, run}
 use Rattle.demands.specs.Wake.{Fair, EachWith, Start, begin}
 
 -- M of 01's examples, cut in two, under the key of sender 1 with the 8-bit reference 2A

@@ -5,13 +5,13 @@ use Prim.Native.Nat.{ℕ}
 use mathlib.Core.Path.{_≡_}
 use mathlib.Core.Bool.{Bool, true}
 use mathlib.Core.List.{List, []}
-use Rattle.packet.specs.declared.Kind.{Kind}
-use Rattle.packet.specs.Refusals as outcome
+use Rattle.types.specs.declared.Kind.{Kind}
+use Rattle.types.specs.Refusals as outcome
 use Rattle.packet.specs.Packets.{Fields, parsing, shownData, shownCheck, shownOpaque, built, checksummed}
-use Rattle.arrival.specs.declared.Key.{Key}
+use Rattle.types.specs.declared.Key.{Key}
 use Rattle.arrival.specs.Arrivals.{part}
 use Rattle.slots.specs.Slots.{slotAt, freed, withSlots}
-use Rattle.series.specs.Taking.{State, After, refused, state, completes}
+use Rattle.series.specs.Taking.{State, refused, state, completes}
 use Rattle.series.specs.CaseLaws.{Bears}
 use Rattle.series.specs.Calls.{Input, read, take}
 use Rattle.split.specs.Splitting.{writeMessage, writePage}

@@ -6,9 +6,9 @@ use mathlib.Core.Bool.{Bool, true, false}
 use mathlib.Core.List.{List, _++_}
 use lib.ListN.{length, getD, drop, replicate}
 use Rattle.octets.specs.Joined.{joined}
-use Rattle.packet.specs.declared.Kind.{Kind}
-use Rattle.packet.specs.declared.Kind.the-variants.{Command, Response}
-use Rattle.packet.specs.Refusals.{gives, refused}
+use Rattle.types.specs.declared.Kind.{Kind}
+use Rattle.types.specs.declared.Kind.the-variants.{Command, Response}
+use Rattle.types.specs.Refusals.{gives, refused}
 use Rattle.packet.specs.Packets.{mostOctets, wellFormed, Fields, fieldsOf, cipheredCommand, isCiphered, measured, parsing, securedOf, checkOf, opaqueOf, shownData, shownCheck, shownOpaque, againstSpi, misfit, packetOf, Parsed, building}
 use Rattle.packet.specs.Laws.{RightLength}
 use Rattle.arrival.specs.Arrivals.{single, part}

@@ -3,12 +3,11 @@ use Prim.Native.Nat.{ℕ, _<_}
 use mathlib.Core.Path.{_≡_}
 use mathlib.Core.List.{List, [], _∷_, _++_}
 use lib.ListN.{length, getD}
-use Rattle.packet.specs.declared.Kind.{Kind}
+use Rattle.types.specs.declared.Kind.{Kind}
 use Rattle.packet.specs.Packets.{mostOctets}
-use Rattle.slots.specs.declared.Record.{Record}
+use Rattle.types.specs.declared.Record.{Record}
 use Rattle.slots.specs.Slots.{freshRecord}
-use Rattle.series.specs.Cells.{cellsSize}
-use Rattle.series.specs.Taking.{State, After, state}
+use Rattle.series.specs.Taking.{After, state}
 use Rattle.series.specs.Calls.{Input, octetsOf, take}
 
 -- a call: what the network brings, and the output that the caller lends for it

@@ -3,20 +3,18 @@
 use Prim.Native.Nat.{ℕ}
 use mathlib.Core.Path.{_≡_}
 use mathlib.Core.List.{List}
-use Rattle.packet.specs.declared.Refusal.{Refusal}
-use Rattle.packet.specs.declared.Written.{Written}
-use Rattle.packet.specs.declared.ParsedCommand.{ParsedCommand}
-use Rattle.packet.specs.declared.ParsedResponse.{ParsedResponse}
-use Rattle.packet.specs.Refusals.{Lent, lent, numberOf, toldWritten}
+use mathlib.Core.Option.{Option}
+use Rattle.types.specs.declared.Written.{Written}
+use Rattle.types.specs.Refusals.{Lent, lent, numberOf, toldWritten}
 use Rattle.packet.specs.Told.{toldCommand, toldResponse}
 use Rattle.packet.specs.Judging.{toldJudged}
-use Rattle.arrival.specs.declared.Arrival.{Arrival}
 use Rattle.arrival.specs.Arrivals.{toldArrival}
+use Rattle.joined.specs.declared.Size.{Size}
 use Rattle.joined.specs.Fronts.{toldSize}
 use Rattle.slots.specs.Found.{toldFound}
-use Rattle.series.specs.declared.Taken.{Taken}
+use Rattle.types.specs.declared.Taken.{Taken}
 use Rattle.series.specs.Taking as taking
-use Rattle.split.specs.declared.WrittenPart.{WrittenPart}
+use Rattle.types.specs.declared.WrittenPart.{WrittenPart}
 use Rattle.split.specs.Splitting as split
 
 -- whatever the rule says, two outcomes of which that is told are the same
@@ -30,6 +28,10 @@ toldBuilt (r, buffer) = lent (toldWritten r) buffer
 
 abbrev pub toldPart : WrittenPart × List ℕ → split.Written
 toldPart (r, buffer) = split.written (split.told r) buffer
+
+-- how long a single packet is, if there is one, and the output as it is afterwards
+abbrev pub toldHanded : Size × List ℕ → Option ℕ × List ℕ
+toldHanded (r, output) = (toldSize r, output)
 
 -- an answer with the record, and the lent cells and output as they are afterwards
 abbrev pub toldTaken : Taken × (List ℕ × List ℕ) → taking.After
@@ -50,14 +52,15 @@ pub record Promises : Type 0 where
   pub take-message-and-page : Tight toldTaken
   -- write_message, write_page
   pub write-message-and-page : Tight toldPart
-  -- and of the calls between crates: judge, packet_size, find_key
+  -- and of the calls between crates: judge, packet_size, hand_out, find_key
   pub judge : Tight toldJudged
   pub packet-size : Tight toldSize
+  pub hand-out : Tight toldHanded
   pub find-key : Tight toldFound
 
 -- Where the promise is that the outcome itself is what the rule says, nothing else can be told of it: wide, pair_of, number_of, put (the answer
 -- and the buffer), same, formed, well_formed, fresh, record_formed, the octets of the part that a showing call, up_to or own_octets gives, and
--- the other calls between crates: before, least, cipher_bit, ciphered_command, element, nothing, plus, walk, no_front, octet_after, opened,
--- free_slot, same_key, new_place.
+-- the other calls between crates: before, least, cipher_bit, ciphered_command, element, nothing, plus, walk, in_range, is_pageless,
+-- reference_fits, room, no_front, extended, front_of, opened, free_slot, slot_at, with_part, same_key, new_place, to_front, freed.
 abbrev pub PlainPromises : Type 1
 PlainPromises = (Outcome : Type 0) → Tight {Outcome = Outcome} {Paper = Outcome} (λ r. r)

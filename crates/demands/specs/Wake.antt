@@ -1,20 +1,20 @@
 -- Demand 3, the wake window, for n slots; 01's library has three. Premises and conclusion are two predicates of what was seen before a call
 -- and of the call.
-use Prim.Native.Nat.{ℕ, suc, _+_, _-_, _≤_, _<_}
+use Prim.Native.Nat.{ℕ, _+_, _-_, _≤_, _<_}
 use mathlib.Core.Path.{_≡_}
 use mathlib.Core.Bool.{Bool, true, false, cond, _||_}
 use mathlib.Core.List.{List, [], _∷_, _++_}
 use lib.ListN.{length, getD, drop}
 use lib.Dec.{eqb}
-use Rattle.packet.specs.declared.Kind.{Kind}
-use Rattle.packet.specs.Refusals as reading
+use Rattle.types.specs.declared.Kind.{Kind}
+use Rattle.types.specs.Refusals as reading
 use Rattle.packet.specs.Packets.{wellFormed}
-use Rattle.arrival.specs.declared.Key.{Key}
+use Rattle.types.specs.declared.Key.{Key}
 use Rattle.arrival.specs.Arrivals.{Brought, single, part}
 use Rattle.arrival.specs.Keys.{ofPages}
 use Rattle.joined.specs.Fronts.{pagesAllow}
 use Rattle.slots.specs.Below.{allBelow}
-use Rattle.slots.specs.Slots.{slotAt, sameKey}
+use Rattle.slots.specs.Slots.{sameKey}
 use Rattle.series.specs.Cells.{cellsSize}
 use Rattle.series.specs.Taking.{After, Answer, kept, heldAlready, packet, refused}
 use Rattle.series.specs.CaseLaws.{Bears, Lacks}

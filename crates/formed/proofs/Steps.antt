@@ -3,18 +3,17 @@ use Prim.Native.Nat.{ℕ, _+_, _≤_}
 use mathlib.Core.Path.{_≡_}
 use mathlib.Core.Bool.{Bool, true, false, not, _&&_}
 use mathlib.Core.List.{List}
-use native.Mathlib.Omega.{arith}
 use lib.ListN.{length}
 use lib.Dec.{eqb, ltb, leb}
 use borrow.Author.Needs.{needs}
 use borrow.Author.Tests.{eq-eqb, ne-eqb}
-use Rattle.packet.specs.declared.Kind.{Kind}
-use Rattle.arrival.specs.declared.Key.{Key}
+use Rattle.types.specs.declared.Kind.{Kind}
+use Rattle.types.specs.declared.Key.{Key}
 use Rattle.arrival.specs.Message.{mostParts}
-use Rattle.arrival.specs.Page.{noPages, pageContent}
-use Rattle.arrival.specs.Keys.{messageKeyFormed, pageKeyFormed, keyFormed, totalFits, room, lengthFits}
-use Rattle.slots.specs.declared.Slot.{Slot}
-use Rattle.slots.specs.Below.{allBelow, anyBelow, countBelow}
+use Rattle.arrival.specs.Page.{identifierInRange, noPages, pageContent}
+use Rattle.arrival.specs.Keys.{referenceFits, messageKeyFormed, pageKeyFormed, keyFormed, totalFits, room, lengthFits}
+use Rattle.types.specs.declared.Slot.{Slot}
+use Rattle.slots.specs.Below.{allBelow}
 use Rattle.slots.specs.BelowLaws.{all-from, all-more, all-through, any-from, any-more, any-through, count-from, count-more, count-through}
 use Rattle.slots.specs.Slots.{slotAt, used, sameKey}
 use Rattle.formed.specs.Formed.{sixteen, zeroKey, zeroPart, allZero, partFormed, heldCount, usedFormed, slotFormed, clash, keysDiffer, usedCount, isRank, ranked, slotsFormed}
@@ -22,10 +21,13 @@ use Rattle.formed.specs.Pieces.{partFits, slotsHold, keyDiffers}
 use Rattle.slots.specs.Found.{length-of-map}
 
 -- ---- keys
-pub page-key-told : (k : Kind) (x : Key) (b : Bool) → b ≡ noPages k
-    → not b && eqb (x .sender) 0 && eqb (x .reference) 0 && (leb 0x1080 (x .identifier .0) && leb (x .identifier .0) 0x109F)
-    ≡ pageKeyFormed k x
-page-key-told k x b e = rw e
+pub message-key-told : (x : Key) (b : Bool) → b ≡ referenceFits (x .width) (x .reference)
+    → b && eqb (x .serial .0) 0 && eqb (x .identifier .0) 0 ≡ messageKeyFormed x
+message-key-told x b e = rw e
+
+pub page-key-told : (k : Kind) (x : Key) (b inside : Bool) → b ≡ noPages k → inside ≡ identifierInRange (x .identifier .0)
+    → not b && eqb (x .sender) 0 && eqb (x .reference) 0 && inside ≡ pageKeyFormed k x
+page-key-told k x b inside e f = rw (e, f)
 
 module _ (k : Kind) (x : Key) (b : Bool) where
   pub key-of-pages : x .width ≡ 0 → b ≡ pageKeyFormed k x → b ≡ keyFormed k x
@@ -44,27 +46,14 @@ module _ (x : Key) (t : ℕ) where
   total-of-message w = rw (ne-eqb (x .width) 0 w)
 
 -- ---- lengths of parts
-module _ (w k : ℕ) where
-  pub wide-first : w ≡ 16 → k ≡ 1 → 131 ≡ room w k
-  wide-first p q = rw (eq-eqb w 16 p, eq-eqb k 1 q)
-
-  pub wide-later : w ≡ 16 → (k ≡ 1 → ⊥) → 133 ≡ room w k
-  wide-later p q = rw (eq-eqb w 16 p, ne-eqb k 1 q)
-
-  pub narrow-first : (w ≡ 16 → ⊥) → k ≡ 1 → 132 ≡ room w k
-  narrow-first p q = rw (ne-eqb w 16 p, eq-eqb k 1 q)
-
-  pub narrow-later : (w ≡ 16 → ⊥) → (k ≡ 1 → ⊥) → 134 ≡ room w k
-  narrow-later p q = rw (ne-eqb w 16 p, ne-eqb k 1 q)
-
 module _ (x : Key) (number n : ℕ) where
   pub page-length : x .width ≡ 0 → eqb n pageContent ≡ lengthFits x number n
   unfolding lengthFits
   page-length w = rw (eq-eqb (x .width) 0 w)
 
-  pub part-length : (m : ℕ) → (x .width ≡ 0 → ⊥) → m ≡ room (x .width) number → leb n m ≡ lengthFits x number n
+  pub part-length : (m o : ℕ) → (x .width ≡ 0 → ⊥) → m ≡ room (x .width) number → o ≡ n → leb o m ≡ lengthFits x number n
   unfolding lengthFits
-  part-length m w e = rw (e, ne-eqb (x .width) 0 w)
+  part-length m o w e f = rw (e, f, ne-eqb (x .width) 0 w)
 
 pub part-held : (key : Key) (total i n : ℕ) (h fits : Bool) → fits ≡ lengthFits key (i + 1) n → h ≡ true
     → ltb i total && fits ≡ partFits key total i n h
@@ -131,15 +120,12 @@ pub ruleset formedSteps = (
   all-through,
   any-through,
   count-through,
+  message-key-told,
   page-key-told,
   key-of-pages,
   key-of-message,
   total-of-pages,
   total-of-message,
-  wide-first,
-  wide-later,
-  narrow-first,
-  narrow-later,
   page-length,
   part-length,
   part-held,

@@ -1,15 +1,15 @@
 -- Which records are well formed (01, "Numbers"): those that the library can have made.
-use Prim.Native.Nat.{ℕ, suc, _+_}
-use mathlib.Core.Bool.{Bool, true, false, not, cond, _&&_, _||_}
+use Prim.Native.Nat.{ℕ, _+_}
+use mathlib.Core.Bool.{Bool, false, not, cond, _&&_}
 use mathlib.Core.List.{List}
 use lib.ListN.{length, getD}
-use lib.Dec.{eqb, ltb, leb}
-use Rattle.packet.specs.declared.Kind.{Kind}
-use Rattle.arrival.specs.declared.Key.{Key}
+use lib.Dec.{eqb, ltb}
+use Rattle.types.specs.declared.Kind.{Kind}
+use Rattle.types.specs.declared.Key.{Key}
 use Rattle.arrival.specs.Message.{mostParts}
 use Rattle.arrival.specs.Keys.{keyFormed, totalFits, lengthFits}
-use Rattle.slots.specs.declared.Slot.{Slot}
-use Rattle.slots.specs.declared.Record.{Record}
+use Rattle.types.specs.declared.Slot.{Slot}
+use Rattle.types.specs.declared.Record.{Record}
 use Rattle.slots.specs.Below.{allBelow, anyBelow, countBelow}
 use Rattle.slots.specs.Slots.{slotAt, used, sameKey}
 

@@ -1,24 +1,22 @@
 -- A well-formed record, clause by clause; and that coming to the front, keeping a part and freeing leave it well formed.
-use Prim.Native.Nat.{ℕ, zero, suc, _+_, _-_, _≤_, _<_}
+use Prim.Native.Nat.{ℕ, _<_}
 use mathlib.Core.Path.{_≡_, refl, sym, ap, _∙_}
-use mathlib.Core.Bool.{Bool, true, false, not, cond, _&&_, _||_}
+use mathlib.Core.Bool.{Bool, true, false, not, cond, _&&_}
 use mathlib.Core.List.{List}
 use native.Mathlib.Omega.{arith}
-use lib.ListN.{length, getD, set, replicate, length-replicate, getD-replicate}
-use lib.Seq.{getD-set-same, getD-set-other}
-use lib.Dec.{eqb, ltb, leb}
-use borrow.Author.Tests.{eqb-true, eq-eqb, ne-eqb, ltb-true, ltb-false, lt-ltb, leb-true, not-true}
-use Rattle.octets.specs.Tests.{clash, both, neither, Same, same, other, same?}
-use Rattle.packet.specs.declared.Kind.{Kind}
-use Rattle.arrival.specs.declared.Key.{Key}
+use lib.ListN.{length, replicate, length-replicate, getD-replicate}
+use lib.Dec.{eqb, ltb}
+use borrow.Author.Tests.{eqb-true, eq-eqb, ne-eqb, ltb-true, ltb-false, lt-ltb, not-true}
+use Rattle.octets.specs.Tests.{clash, both, Same, same, other, same?}
+use Rattle.types.specs.declared.Kind.{Kind}
 use Rattle.arrival.specs.Message.{mostParts}
-use Rattle.arrival.specs.Keys.{keyFormed, totalFits, lengthFits}
-use Rattle.slots.specs.declared.Slot.{Slot}
-use Rattle.slots.specs.Below.{allBelow, anyBelow, countBelow}
+use Rattle.arrival.specs.Keys.{keyFormed, totalFits}
+use Rattle.types.specs.declared.Slot.{Slot}
+use Rattle.slots.specs.Below.{allBelow, countBelow}
 use Rattle.slots.specs.BelowLaws.{all-at, all-hold, count-zero}
-use Rattle.slots.specs.Slots.{slotAt, freeSlot, opened, used, sameKey, heldAt, withPart, atRank, aged, closed, toFront, freed}
+use Rattle.slots.specs.Slots.{slotAt, freeSlot, used, sameKey, atRank, aged, closed, toFront, freed}
 use Rattle.formed.specs.Formed as rule
-use Rattle.formed.specs.Formed.{markAt, sizeAt, partFormed, heldCount, usedFormed, allZero, slotFormed, keysDiffer, ranked, slotsFormed}
+use Rattle.formed.specs.Formed.{partFormed, heldCount, usedFormed, allZero, slotFormed, keysDiffer, ranked, slotsFormed}
 use Rattle.slots.specs.RankLaws.{Ranked, pos-taken, aged-taken, closed-taken, front-ranked, free-ranked}
 use Rattle.slots.specs.FrontLaws.{front-here, front-there, front-length, freed-here, freed-there, freed-length, same-key, key-same}
 

@@ -3,10 +3,10 @@ use Prim.Native.Nat.{ℕ, _+_}
 use mathlib.Core.Bool.{Bool, not, cond, _&&_}
 use mathlib.Core.List.{List}
 use lib.Dec.{eqb, ltb}
-use Rattle.packet.specs.declared.Kind.{Kind}
-use Rattle.arrival.specs.declared.Key.{Key}
+use Rattle.types.specs.declared.Kind.{Kind}
+use Rattle.types.specs.declared.Key.{Key}
 use Rattle.arrival.specs.Keys.{lengthFits}
-use Rattle.slots.specs.declared.Slot.{Slot}
+use Rattle.types.specs.declared.Slot.{Slot}
 use Rattle.slots.specs.Below.{allBelow}
 use Rattle.slots.specs.Slots.{slotAt}
 use Rattle.formed.specs.Formed.{slotFormed, clash}

@@ -1,19 +1,23 @@
 // Which records are well formed (01, "Numbers"): one function for each test of the rules, in their order, and one loop for each test that goes
 // over the parts of a slot or over the slots.
-use arrival::Key;
-use packet::Kind;
-use slots::PARTS;
-use slots::Record;
-use slots::SLOTS;
-use slots::Slot;
+use arrival::keys::in_range;
+use arrival::keys::is_pageless;
+use arrival::keys::reference_fits;
+use arrival::keys::room;
 use slots::find::same_key;
+use types::Key;
+use types::Kind;
+use types::PAGE_CONTENT;
+use types::PARTS;
+use types::Record;
+use types::SLOTS;
+use types::Slot;
 ghost use mathlib.Core.Path.{_≡_};
 ghost use mathlib.Core.Bool.{cond};
 ghost use Prim.Native.Nat.{_≤_, _<_};
 ghost use lib.ListN.{length};
 ghost use Rattle.arrival.specs.Message.{mostParts};
-ghost use Rattle.arrival.specs.Page.{noPages};
-ghost use Rattle.arrival.specs.Keys.{messageKeyFormed, pageKeyFormed, keyFormed, totalFits, room, lengthFits};
+ghost use Rattle.arrival.specs.Keys.{messageKeyFormed, pageKeyFormed, keyFormed, totalFits, lengthFits};
 ghost use Rattle.slots.specs.Below.{allBelow};
 ghost use Rattle.slots.specs.Slots.{slotCount};
 ghost use Rattle.formed.specs.Formed.{zeroKey, zeroPart, allZero, partFormed, heldCount, usedFormed, slotFormed, keysDiffer, usedCount, isRank, ranked, recordFormed};
@@ -26,33 +30,21 @@ fn one(flag: bool) -> u8
     if flag { 1 } else { 0 }
 }
 
-// Whether records of the kind hold no page series.
-fn no_pages(kind: Kind) -> bool
-    ensures { λ r. ⌜ r ≡ noPages kind ⌝ }
-{
-    match kind {
-        Kind::Command => false,
-        Kind::Response => true,
-    }
-}
-
 // Whether a key with a width is one of a short message: its reference fits the width, and what only pages have is zero.
 fn message_key_formed(key: Key) -> bool
     ensures { λ r. ⌜ r ≡ messageKeyFormed key ⌝ }
 {
-    (((key.width == 8) & (key.reference < 256))
-        | ((key.width == 16) & ((key.reference as u32) < 65536)))
-        & (key.serial.0 == 0)
-        & (key.identifier.0 == 0)
+    let fits = reference_fits(key.width as u32, key.reference as u32);
+    fits & (key.serial.0 == 0) & (key.identifier.0 == 0)
 }
 
 // Whether a key without a width is one of pages, in a record of that kind.
 fn page_key_formed(kind: Kind, key: Key) -> bool
     ensures { λ r. ⌜ r ≡ pageKeyFormed kind key ⌝ }
 {
-    let none = no_pages(kind);
-    let id = key.identifier.0;
-    !none & (key.sender == 0) & (key.reference == 0) & ((0x1080 <= id) & (id <= 0x109F))
+    let none = is_pageless(kind);
+    let inside = in_range(key.identifier);
+    !none & (key.sender == 0) & (key.reference == 0) & inside
 }
 
 // Whether a key is one that reading gives for a record of that kind.
@@ -75,31 +67,15 @@ fn total_fits(key: Key, total: u8) -> bool
     (2 <= total) & (total <= PARTS as u8)
 }
 
-// The most octets of part `number` of a short message: the wider reference takes one, and in part 1 the packet identifier two.
-fn room(width: u8, number: usize) -> u8
-    ensures { λ r. ⌜ r ≡ room width number ⌝ }
-{
-    if width == 16 {
-        if number == 1 {
-            return 131;
-        }
-        return 133;
-    }
-    if number == 1 {
-        return 132;
-    }
-    134
-}
-
 // Whether part `number` of a series with that key can have n octets.
 fn length_fits(key: Key, number: usize, n: u8) -> bool
     ensures { λ r. ⌜ r ≡ lengthFits key number n ⌝ }
 {
     if key.width == 0 {
-        return n == 82;
+        return n == PAGE_CONTENT as u8;
     }
-    let most = room(key.width, number);
-    n <= most
+    let most = room(key.width as u32, number);
+    octets::wide(n) <= most
 }
 
 // Whether a free slot's key is all zero.

@@ -7,7 +7,7 @@ use mathlib.Core.Option.{Option, none, some}
 use lib.ListN.{length, getD, take, drop}
 use lib.Dec.{ltb, leb}
 use Rattle.octets.specs.Octets.{numberOf}
-use Rattle.packet.specs.declared.Kind.{Kind}
+use Rattle.types.specs.declared.Kind.{Kind}
 use Rattle.packet.specs.Packets.{cpl, formedBy, wellFormed}
 use Rattle.arrival.specs.Page.{pageContent}
 use Rattle.joined.specs.declared.Front.{Front}
@@ -46,6 +46,14 @@ frontAfter f p =
       header = octetAfter 2 (f .count) (f .header) p;
     }
 
+-- What extending a front comes to, whatever it counts. Past the longest packet that a CPL can state, 65,537 octets, a front stays as it is:
+-- how many more follow tells nothing of a packet.
+abbrev pub mostCounted : ℕ
+mostCounted = 65537
+
+abbrev pub extended : Front → List ℕ → Front
+extended f p = cond (ltb mostCounted (f .count)) f (frontAfter f p)
+
 -- ---- the packet in joined octets, by their front
 -- how many of them count: all; in pages CPL + 2, or all where there are fewer
 abbrev pub sizeIn : Bool → Front → ℕ
@@ -72,3 +80,7 @@ lengthIn (some p) = some (length p)
 abbrev pub outputWith : Option (List ℕ) → List ℕ → List ℕ
 outputWith none output = output
 outputWith (some p) output = p ++ drop (length p) output
+
+-- the packet of octets in one place, for a buffer of `size` octets: none where the buffer has not as many
+abbrev pub packetFor : Kind → Bool → List ℕ → ℕ → Option (List ℕ)
+packetFor k paged o size = cond (ltb size (length o)) none (packetIn k paged 1 o)

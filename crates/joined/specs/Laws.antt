@@ -8,14 +8,14 @@ use native.Mathlib.Omega.{arith}
 use lib.ListN.{length, take, drop, getD, length-append, length-take, List·getD-append}
 use lib.Seq.{length-take-le, take-length, take-all, getD-append-add, getD-take}
 use lib.Dec.{eqb, ltb, leb}
-use borrow.Author.Tests.{eqb-true, eqb-false, ltb-true, ltb-false, leb-true, leb-false, lt-leb}
+use borrow.Author.Tests.{eqb-true, eqb-false, ltb-true, ltb-false, leb-true, leb-false, lt-leb, le-ltb}
 use Rattle.octets.specs.Octets.{numberOf}
-use Rattle.packet.specs.declared.Kind.{Kind}
+use Rattle.types.specs.declared.Kind.{Kind}
 use Rattle.packet.specs.Packets.{cpl, formedBy, wellFormed}
 use Rattle.joined.specs.declared.Front.{Front}
 use Rattle.joined.specs.declared.Size.{Size}
 use Rattle.joined.specs.declared.Size.the-variants as size
-use Rattle.joined.specs.Fronts.{pagesAllow, packetOctets, packetIn, frontOf, octetAfter, frontAfter, sizeIn, holdsPacket, sizeBy, toldSize, lengthIn, outputWith}
+use Rattle.joined.specs.Fronts.{pagesAllow, packetOctets, packetIn, frontOf, octetAfter, frontAfter, mostCounted, extended, sizeIn, holdsPacket, sizeBy, toldSize, lengthIn, outputWith, packetFor}
 
 -- ---- more octets
 -- an octet lies in the first run or in the second
@@ -37,6 +37,10 @@ front-more o p =
       low = octet-more 1 o p i;
       header = octet-more 2 o p i;
     }
+
+-- the front of no more octets than that grows by what follows
+pub extended-more : (f : Front) (p : List ℕ) → f .count ≤ mostCounted → extended f p ≡ frontAfter f p
+extended-more f p l = rw (le-ltb mostCounted (f .count) l)
 
 -- ---- the packet
 pub size-inside : (paged : Bool) (f : Front) → sizeIn paged f ≤ f .count
@@ -153,3 +157,7 @@ module _ (k : Kind) (paged : Bool) (t : ℕ) (o : List ℕ) (f : Front) (z : Siz
 
     pub packet-written : (d x : List ℕ) → x ≡ take n o ++ drop n d → x ≡ outputWith (packetIn k paged t o) d
     packet-written d x h = rw (packet-by k paged t o, ← size-told, e, length-take-le n o packet-inside) h
+
+-- a buffer with room for all of the octets
+pub packet-for : (k : Kind) (paged : Bool) (o : List ℕ) (size : ℕ) → length o ≤ size → packetFor k paged o size ≡ packetIn k paged 1 o
+packet-for k paged o size l = rw (le-ltb size (length o) l)

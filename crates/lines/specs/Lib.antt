@@ -1,3 +1,1 @@
-pub mod Texts
-pub mod Words
-pub mod Heard
+pub mod Lines

@@ -1,59 +1,45 @@
-// Lines of text: their words, octets and numbers read from them, and answers put together. Every call takes anything.
-pub mod pieces;
-pub mod texts;
-pub mod words;
+// Lines that need no record: each is a call of the library, made with octets that are read into a lent room, and its answer as text. A line
+// that is not understood says nothing and leaves the buffer as it was.
+mod args;
+pub mod packets;
+pub mod parts;
 
-// The most octets that a line of 9,000 characters can have.
-pub const OCTETS: usize = 4500;
+ghost use mathlib.Core.Path.{_≡_};
+ghost use mathlib.Core.Bool.{true, false};
 
-// A word of a line: from `start` up to, not including, `end`.
-pub struct Word {
-    pub start: usize,
-    pub end: usize,
-}
+// A number of octets lent that stands for the right one.
+pub const RIGHT: usize = 65535;
 
-// What reading a word of octets comes to: how many there are, and where the line goes on.
-pub struct Field {
-    pub understood: bool,
-    pub count: usize,
-    pub next: usize,
-}
-
-// What reading a decimal word comes to.
-pub struct Numeral {
-    pub understood: bool,
-    pub value: u32,
-    pub next: usize,
-}
-
-// Where a line goes on.
-pub struct Place {
-    pub understood: bool,
-    pub next: usize,
-}
-
-// What a line comes to: where the text ends with its answer; where it is not understood, nothing is written.
+// What a line comes to: where the text ends with its answer; if it is not understood, nothing is written.
 pub struct Said {
     pub understood: bool,
     pub end: usize,
 }
 
-// What reading `plain` or `ciphered` comes to.
-pub struct Mode {
-    pub understood: bool,
-    pub ciphered: bool,
-    pub next: usize,
+// A line that is understood, with its answer up to a place; and one that is not.
+pub fn understood(end: usize) -> Said
+    ensures { λ r. ⌜ r .understood ≡ true ⌝ }
+{
+    Said {
+        understood: true,
+        end: end,
+    }
 }
 
-// What reading two words of octets comes to: those of the first end in the middle, those of the second at the end.
-pub struct Two {
-    pub understood: bool,
-    pub middle: usize,
-    pub end: usize,
+pub fn not_understood(at: usize) -> Said
+    ensures { λ r. ⌜ (r .understood ≡ false) × (r .end ≡ at) ⌝ }
+{
+    Said {
+        understood: false,
+        end: at,
+    }
 }
 
-// How many characters of a line were gathered, and whether there were more than a line may have.
-pub struct Gathered {
-    pub count: usize,
-    pub long: bool,
+// As many octets of a buffer as are lent: n, or the right number of them; all if there are fewer.
+pub(crate) fn lent(buffer: &mut [u8], n: usize, right: usize) -> &mut [u8] {
+    let wanted = if n == RIGHT { right } else { n };
+    if buffer.len() < wanted {
+        return buffer;
+    }
+    &mut buffer[0..wanted]
 }

@@ -1,16 +1,16 @@
 -- Laws of what `Octets.antt` defines, which the crates above cite.
-use Prim.Native.Nat.{ℕ, zero, suc, _+_, _-_, _*_, _/_, _%_, _≤_, _<_}
-use mathlib.Core.Path.{_≡_, refl, sym, ap, _∙_, subst}
-use mathlib.Core.Bool.{Bool, true, false, cond, _&&_}
+use Prim.Native.Nat.{ℕ, _+_, _*_, _/_, _%_, _≤_, _<_}
+use mathlib.Core.Path.{_≡_, refl, _∙_, subst}
+use mathlib.Core.Bool.{true, false}
 use mathlib.Core.List.{List, [], _∷_, _++_, append-assoc}
 use native.Mathlib.Omega.{arith}
 use native.Mathlib.Nat.{zero-add, add-assoc}
-use lib.ListN.{length, take, drop, getD, length-append, length-take, length-drop, drop-of-length-le}
-use lib.Seq.{length-take-le, take-length, take-at, drop-at, take-append-le, drop-append-le, take-all, drop-drop, take-append-add, drop-append-add}
-use lib.Dec.{eqb, leb}
+use lib.ListN.{length, take, drop, length-append, length-take, length-drop}
+use lib.Seq.{take-at, drop-at, drop-drop}
+use lib.Dec.{eqb}
 use borrow.Author.Tests.{eqb-true, eq-eqb, le-leb}
 use Rattle.octets.specs.Tests.{both, clash}
-use Rattle.octets.specs.Octets.{numberOf, pairOf, placed, fitsAt, afterPut, sameOctets}
+use Rattle.octets.specs.Octets.{numberOf, pairOf, placed, afterPut, sameOctets}
 
 -- ---- numbers
 -- reading what was written gives the number

@@ -5,7 +5,7 @@ use mathlib.Core.Bool.{Bool, true, false, cond, _&&_}
 use mathlib.Core.List.{List, [], _∷_, _++_}
 use lib.ListN.{length, take, drop}
 use lib.Dec.{eqb, leb}
-use Rattle.octets.specs.declared.Pair.{Pair}
+use Rattle.types.specs.declared.Pair.{Pair}
 
 -- the number that two octets are, the high one first
 abbrev pub numberOf : ℕ → ℕ → ℕ

@@ -1,10 +1,8 @@
 // Octets: one as a length, two as a 16-bit number, the first of a slice, octets put into a lent slice, and two slices compared.
+use types::Pair;
 ghost use mathlib.Core.Path.{_≡_};
 ghost use lib.ListN.{take};
 ghost use Rattle.octets.specs.Octets.{pairOf, numberOf, fitsAt, afterPut, sameOctets};
-
-// Two octets of a 16-bit number, the high one first, as they stand on the air.
-pub struct Pair(pub u8, pub u8);
 
 // The two octets of a number.
 pub fn pair_of(n: u16) -> Pair

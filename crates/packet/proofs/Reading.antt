@@ -7,24 +7,24 @@ use native.Mathlib.Omega.{arith}
 use native.Mathlib.Nat.{add-zero}
 use lib.ListN.{length, getD, take, drop, length-take, length-drop, List·getD-eq-default}
 use lib.Seq.{drop-cons, getD-drop, take-add, drop-drop}
-use lib.Dec.{eqb, ltb, leb}
+use lib.Dec.{eqb, leb}
 use borrow.Author.Needs.{needs}
 use borrow.Author.Tests.{not-true, not-false, lt-ltb, le-ltb}
 use Rattle.octets.specs.Octets.{numberOf}
-use Rattle.packet.specs.declared.Kind.{Kind}
-use Rattle.packet.specs.declared.Kind.the-variants.{Command, Response}
-use Rattle.packet.specs.declared.Tar.{Tar}
-use Rattle.packet.specs.declared.Cntr.{Cntr}
-use Rattle.packet.specs.declared.Clear.{Clear}
-use Rattle.packet.specs.declared.Opaque.{Opaque}
-use Rattle.packet.specs.declared.PlainCommand.{PlainCommand}
-use Rattle.packet.specs.declared.PlainResponse.{PlainResponse}
-use Rattle.packet.specs.declared.CommandBody.the-variants as command
-use Rattle.packet.specs.declared.ResponseBody.the-variants as response
-use Rattle.packet.specs.declared.Refusal.{Refusal}
+use Rattle.types.specs.declared.Kind.{Kind}
+use Rattle.types.specs.declared.Kind.the-variants.{Command, Response}
+use Rattle.types.specs.declared.Tar.{Tar}
+use Rattle.types.specs.declared.Cntr.{Cntr}
+use Rattle.types.specs.declared.Clear.{Clear}
+use Rattle.types.specs.declared.Opaque.{Opaque}
+use Rattle.types.specs.declared.PlainCommand.{PlainCommand}
+use Rattle.types.specs.declared.PlainResponse.{PlainResponse}
+use Rattle.types.specs.declared.CommandBody.the-variants as command
+use Rattle.types.specs.declared.ResponseBody.the-variants as response
+use Rattle.types.specs.declared.Refusal.{Refusal}
 use Rattle.packet.specs.declared.read.Judged.{Judged}
 use Rattle.packet.specs.declared.read.Judged.the-variants as judged
-use Rattle.packet.specs.Refusals.{Outcome, refused, gives, numberOf as refusalNumber}
+use Rattle.types.specs.Refusals.{Outcome, refused, gives, numberOf as refusalNumber}
 use Rattle.packet.specs.Packets.{before, least, chl, formedBy, wellFormed, cipheredCommand, fieldsOf, Parsed, plainParsed, cipheredParsed, measured, readable, parsing}
 use Rattle.packet.specs.Told.{tarOctets, clearOctets, counterOctets, commandFields, responseFields}
 use Rattle.packet.specs.Laws.{Formed, formed-facts, before-least, least-most}

@@ -7,11 +7,11 @@ use native.Mathlib.Omega.{arith}
 use lib.ListN.{length}
 use lib.Dec.{ltb}
 use borrow.Author.Tests.{ltb-false}
-use Rattle.packet.specs.declared.Kind.{Kind}
-use Rattle.packet.specs.declared.Refusal.{Refusal}
+use Rattle.types.specs.declared.Kind.{Kind}
+use Rattle.types.specs.declared.Refusal.{Refusal}
 use Rattle.packet.specs.declared.read.Judged.{Judged}
 use Rattle.packet.specs.declared.read.Judged.the-variants as judged
-use Rattle.packet.specs.Refusals.{Outcome, refused, gives, refuse_when_otherwise_, numberOf}
+use Rattle.types.specs.Refusals.{Outcome, refused, gives, refuse_when_otherwise_, numberOf}
 use Rattle.packet.specs.Packets.{chl, wellFormed, readable}
 use Rattle.packet.specs.Laws.{Formed, formed-facts}
 

@@ -11,9 +11,9 @@ use lib.Dec.{eqb, ltb, leb}
 use borrow.Author.Tests.{eqb-true, eq-eqb, leb-true, le-leb, ltb-false, le-ltb}
 use Rattle.octets.specs.Tests.{both, neither}
 use Rattle.octets.specs.Laws.{number-of-pair}
-use Rattle.packet.specs.declared.Kind.{Kind}
-use Rattle.packet.specs.declared.Kind.the-variants.{Command, Response}
-use Rattle.packet.specs.Refusals.{Outcome, gives, refuse_when_otherwise_}
+use Rattle.types.specs.declared.Kind.{Kind}
+use Rattle.types.specs.declared.Kind.the-variants.{Command, Response}
+use Rattle.types.specs.Refusals.{Outcome, gives, refuse_when_otherwise_}
 use Rattle.packet.specs.Packets.{before, least, cpl, chl, wellFormed, Fields, plain, ciphered, fieldsBehind, fieldsOf, cipherBit, cipheredCommand, measured, readable, parsing, shown, securedOf, checkOf, opaqueOf, shownData, shownCheck, shownOpaque, headerLength, behind, packetFrom, packetOf, isCiphered, differ, againstSpi, misfit, building}
 
 -- ---- the layout

@@ -1,4 +1,3 @@
-pub mod Refusals
 pub mod Packets
 pub mod Told
 pub mod Laws

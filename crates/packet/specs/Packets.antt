@@ -1,14 +1,14 @@
 -- Secured packets (01, "Packets"). A kind is its layout, counted behind the two lengths CPL and CHL (RPL and RHL); everything else is said
 -- once for both kinds.
 use Prim.Native.Nat.{ℕ, _+_, _-_, _/_, _%_}
-use mathlib.Core.Bool.{Bool, true, false, not, cond, _&&_, _||_}
+use mathlib.Core.Bool.{Bool, true, false, not, _&&_, _||_}
 use mathlib.Core.List.{List, [], _∷_, _++_}
 use lib.ListN.{length, getD, take, drop}
 use lib.Dec.{eqb, ltb, leb}
 use Rattle.octets.specs.Octets.{numberOf, pairOf}
-use Rattle.packet.specs.declared.Kind.{Kind}
-use Rattle.packet.specs.declared.Kind.the-variants.{Command, Response}
-use Rattle.packet.specs.Refusals.{Outcome, refused, gives, refuse_when_otherwise_, Lent, writes}
+use Rattle.types.specs.declared.Kind.{Kind}
+use Rattle.types.specs.declared.Kind.the-variants.{Command, Response}
+use Rattle.types.specs.Refusals.{Outcome, refused, gives, refuse_when_otherwise_, Lent, writes}
 
 -- ---- the layout of a kind
 -- how many octets stand before CNTR: SPI, KIc, KID and TAR, or TAR alone

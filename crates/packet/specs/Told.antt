@@ -1,23 +1,18 @@
 -- What the answers of parsing say, in the words of the paper: the fields in the packet's order.
 use Prim.Native.Nat.{ℕ}
 use mathlib.Core.List.{List, [], _∷_, _++_}
-use Rattle.packet.specs.declared.Tar.{Tar}
-use Rattle.packet.specs.declared.Cntr.{Cntr}
-use Rattle.packet.specs.declared.Clear.{Clear}
-use Rattle.packet.specs.declared.Opaque.{Opaque}
-use Rattle.packet.specs.declared.PlainCommand.{PlainCommand}
-use Rattle.packet.specs.declared.PlainResponse.{PlainResponse}
-use Rattle.packet.specs.declared.CommandBody.{CommandBody}
-use Rattle.packet.specs.declared.CommandBody.the-variants as command
-use Rattle.packet.specs.declared.ResponseBody.{ResponseBody}
-use Rattle.packet.specs.declared.ResponseBody.the-variants as response
-use Rattle.packet.specs.declared.Command.{Command}
-use Rattle.packet.specs.declared.Response.{Response}
-use Rattle.packet.specs.declared.ParsedCommand.{ParsedCommand}
-use Rattle.packet.specs.declared.ParsedCommand.the-variants as parsedCommand
-use Rattle.packet.specs.declared.ParsedResponse.{ParsedResponse}
-use Rattle.packet.specs.declared.ParsedResponse.the-variants as parsedResponse
-use Rattle.packet.specs.Refusals.{Outcome, refused, gives, numberOf}
+use Rattle.types.specs.declared.Tar.{Tar}
+use Rattle.types.specs.declared.Cntr.{Cntr}
+use Rattle.types.specs.declared.Clear.{Clear}
+use Rattle.types.specs.declared.CommandBody.{CommandBody}
+use Rattle.types.specs.declared.CommandBody.the-variants as command
+use Rattle.types.specs.declared.ResponseBody.{ResponseBody}
+use Rattle.types.specs.declared.ResponseBody.the-variants as response
+use Rattle.types.specs.declared.ParsedCommand.{ParsedCommand}
+use Rattle.types.specs.declared.ParsedCommand.the-variants as parsedCommand
+use Rattle.types.specs.declared.ParsedResponse.{ParsedResponse}
+use Rattle.types.specs.declared.ParsedResponse.the-variants as parsedResponse
+use Rattle.types.specs.Refusals.{Outcome, refused, gives, numberOf}
 use Rattle.packet.specs.Packets.{Parsed, plainParsed, cipheredParsed}
 
 -- "TAR and CNTR pass as three and five octets."

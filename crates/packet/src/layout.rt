@@ -1,5 +1,5 @@
 // The layout of a kind, said once for everything that reads or builds a packet, and the few numbers that every packet has.
-use crate::Kind;
+use types::Kind;
 ghost use mathlib.Core.Path.{_≡_};
 ghost use Prim.Native.Nat.{_+_, _≤_};
 ghost use Rattle.packet.specs.Packets.{before, least, cipherBit};

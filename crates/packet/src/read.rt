@@ -1,25 +1,26 @@
 // Reading a packet: whether it is well formed, and its fields.
-use crate::Clear;
-use crate::Cntr;
-use crate::Command;
-use crate::CommandBody;
-use crate::Kind;
-use crate::Opaque;
-use crate::ParsedCommand;
-use crate::ParsedResponse;
-use crate::PlainCommand;
-use crate::PlainResponse;
-use crate::Refusal;
-use crate::Response;
-use crate::ResponseBody;
-use crate::Spi;
-use crate::Tar;
 use crate::layout;
+use types::Clear;
+use types::Cntr;
+use types::Command;
+use types::CommandBody;
+use types::Kind;
+use types::MOST_OCTETS;
+use types::Opaque;
+use types::ParsedCommand;
+use types::ParsedResponse;
+use types::PlainCommand;
+use types::PlainResponse;
+use types::Refusal;
+use types::Response;
+use types::ResponseBody;
+use types::Spi;
+use types::Tar;
 ghost use mathlib.Core.Path.{_≡_};
 ghost use mathlib.Core.List.{[], _∷_};
 ghost use Prim.Native.Nat.{_+_, _-_, _≤_};
 ghost use lib.ListN.{length, take, drop};
-ghost use Rattle.packet.specs.Refusals.{gives};
+ghost use Rattle.types.specs.Refusals.{gives};
 ghost use Rattle.packet.specs.Packets.{before, least, chl, formedBy, wellFormed, cipheredCommand, fieldsOf, measured, readable, parsing};
 ghost use Rattle.packet.specs.Told.{tarOctets, clearOctets, counterOctets, commandFields, responseFields, toldCommand, toldResponse};
 ghost use Rattle.packet.specs.Laws.{Formed};
@@ -78,7 +79,7 @@ pub fn judge(kind: Kind, packet: &[u8]) -> Judged
     if !well_formed(kind, packet) {
         return Judged::Refused(Refusal::NotWellFormed);
     }
-    if 2142 < packet.len() {
+    if MOST_OCTETS < packet.len() {
         return Judged::Refused(Refusal::PacketLength);
     }
     Judged::Readable(header_of(packet))

@@ -14,11 +14,11 @@ use Rattle.octets.specs.Tests.{both}
 use Rattle.octets.specs.Octets.{placed, afterPut, sameOctets}
 use Rattle.octets.specs.Laws.{put-fits, placed-start, placed-next}
 use Rattle.packet.specs.Packets.{mostOctets}
-use Rattle.arrival.specs.declared.Key.{Key}
+use Rattle.types.specs.declared.Key.{Key}
 use Rattle.arrival.specs.Message.{mostParts}
 use Rattle.arrival.specs.Page.{pageContent}
 use Rattle.arrival.specs.Keys.{ofPages, lengthFits}
-use Rattle.slots.specs.declared.Slot.{Slot}
+use Rattle.types.specs.declared.Slot.{Slot}
 use Rattle.slots.specs.Slots.{slotCount, lengthAt}
 use Rattle.formed.specs.Formed.{markAt, sizeAt, partFormed}
 use Rattle.series.specs.Cells.{cellOctets, cellsSize, cellAt, cellPart, joined, joinedOctets}

@@ -1,43 +1,22 @@
 -- What the proofs of `cells` and `packets` search: one law for each return, call and turn of a loop, over plain variables.
 use Prim.Native.Nat.{ℕ, zero, suc, _+_, _-_, _*_, _≤_, _<_}
 use mathlib.Core.Path.{_≡_, sym, ap, _∙_}
-use mathlib.Core.Bool.{Bool, true, false, not, _&&_, _||_}
 use mathlib.Core.List.{List, [], _++_}
-use mathlib.Core.Option.{none, some}
 use native.Mathlib.Omega.{arith}
-use lib.ListN.{length, take, drop, getD, length-take, List·getD-eq-default}
-use lib.Seq.{length-take-le, take-all}
+use lib.ListN.{length, take, drop, length-take}
 use borrow.Author.Needs.{needs}
-use borrow.Author.Tests.{lt-ltb, le-ltb, not-true, not-false}
-use Rattle.octets.specs.Octets.{numberOf, placed, afterPut}
+use Rattle.octets.specs.Octets.{placed, afterPut}
 use Rattle.octets.specs.Laws.{put-fits, length-placed}
-use Rattle.packet.specs.declared.Kind.{Kind}
-use Rattle.packet.specs.Packets.{formedBy}
 use Rattle.arrival.specs.Message.{mostParts}
 use Rattle.joined.specs.declared.Front.{Front}
-use Rattle.joined.specs.Fronts.{frontOf, octetAfter, frontAfter}
+use Rattle.joined.specs.Fronts.{frontOf, mostCounted, extended}
 use Rattle.slots.specs.Slots.{slotCount}
 use Rattle.series.specs.Cells.{cellOctets, cellsSize, joined}
 use Rattle.series.specs.Handing.{Short, pieceOf}
 use Rattle.series.proofs.CellLaws.{part-from, same-as, stored, short-at, piece-new, piece-held, piece-length, joined-none, joined-more, joined-length, start-written, Written, written-none, written-more}
-use Rattle.joined.specs.Laws.{front-more, none-told, none-kept, packet-inside, packet-fits, packet-told, packet-written}
+use Rattle.joined.specs.Laws.{front-more, extended-more, none-told, none-kept, packet-inside, packet-fits, packet-told, packet-written}
 
 -- ---- the front
-module _ (f : Front) (p : List ℕ) where
-  pub front-seen : 3 ≤ f .count
-      → record { count = f .count + length p; high = f .high; low = f .low; header = f .header } ≡ frontAfter f p
-  front-seen l = rw (lt-ltb 0 (f .count) (omega arith), lt-ltb 1 (f .count) (omega arith), lt-ltb 2 (f .count) (omega arith))
-
-  pub front-octets : (a b c : ℕ) → a ≡ octetAfter 0 (f .count) (f .high) p → b ≡ octetAfter 1 (f .count) (f .low) p
-      → c ≡ octetAfter 2 (f .count) (f .header) p → record { count = f .count + length p; high = a; low = b; header = c } ≡ frontAfter f p
-  front-octets a b c x y z = rw (x, y, z)
-
-  pub front-first : (r : Front) → f ≡ frontOf [] → r ≡ frontAfter f p → r ≡ frontOf p
-  front-first r e h = rw (h, e) (front-more [] p)
-
-pub count-none : (f : Front) → f ≡ frontOf [] → f .count ≤ mostParts * cellOctets
-count-none f e = rw e (omega arith)
-
 -- the parts of a series: none yet, one more, all of them
 module _ (cells lengths : List ℕ) (s number : ℕ) (part : List ℕ) where
   abbrev piece : ℕ → List ℕ
@@ -46,16 +25,8 @@ module _ (cells lengths : List ℕ) (s number : ℕ) (part : List ℕ) where
   pub front-none : (f : Front) → f ≡ frontOf [] → f ≡ frontOf (joined piece 0)
   front-none f e = e ∙ ap frontOf (sym (joined-none piece))
 
-  pub front-next : (f r : Front) (k : ℕ) (p : List ℕ) → p ≡ piece (k + 1) → r ≡ frontAfter f p → f ≡ frontOf (joined piece k)
-      → r ≡ frontOf (joined piece (k + 1))
-  front-next f r k p is more e = rw (more, e, is, front-more (joined piece k) (piece (k + 1))) (ap frontOf (sym (joined-more piece k)))
-
-  pub front-all : (f : Front) (k total : ℕ) → f ≡ frontOf (joined piece k) → k ≤ total → total ≤ k → f ≡ frontOf (joined piece total)
-  front-all f k total e u v = let h : k ≡ total = omega arith in rw h at e
-
-  pub count-joined : (f : Front) (k total : ℕ) → f ≡ frontOf (joined piece k) → k < total → (s < slotCount) × (total ≤ mostParts)
-      → Short lengths → (length part ≤ cellOctets) × (length cells ≡ cellsSize slotCount) → f .count ≤ mostParts * cellOctets
-  count-joined f k total e l (u, v) short (size, whole) = rw e (go k (omega arith))
+  count-joined : (k : ℕ) → k ≤ mostParts → Short lengths → length part ≤ cellOctets → length (joined piece k) ≤ mostParts * cellOctets
+  count-joined k l short size = go k l
     where
       each : (i : ℕ) → 0 < i → i ≤ mostParts → length (piece i) ≤ cellOctets
       each i a b = piece-length cells lengths s number part i cellOctets (λ q. size) (short (i - 1) (omega arith))
@@ -64,6 +35,17 @@ module _ (cells lengths : List ℕ) (s number : ℕ) (part : List ℕ) where
       go zero h = rw (joined-none piece) (omega arith)
       go (suc n) h =
           omega (arith, joined-length piece 0 n (omega (arith, each 1 (omega arith) (omega arith))) (λ i a b. each i a (omega arith)))
+
+  pub front-next : (f r : Front) (k total : ℕ) (p : List ℕ) → p ≡ piece (k + 1) → r ≡ extended f p → f ≡ frontOf (joined piece k) → k < total
+      → (s < slotCount) × (total ≤ mostParts) → Short lengths → (length part ≤ cellOctets) × (length cells ≡ cellsSize slotCount)
+      → r ≡ frontOf (joined piece (k + 1))
+  front-next f r k total p is more e l (u, v) short (size, whole) =
+      let few : length (joined piece k) ≤ mostCounted = omega (arith, count-joined k (omega arith) short size) in
+      rw (more, e, is, extended-more (frontOf (joined piece k)) (piece (k + 1)) few, front-more (joined piece k) (piece (k + 1)))
+      (ap frontOf (sym (joined-more piece k)))
+
+  pub front-all : (f : Front) (k total : ℕ) → f ≡ frontOf (joined piece k) → k ≤ total → total ≤ k → f ≡ frontOf (joined piece total)
+  front-all f k total e u v = let h : k ≡ total = omega arith in rw h at e
 
 -- ---- writing
 -- what is put up to the limit stands there, inside the buffer, which keeps its length
@@ -83,9 +65,6 @@ pub length-next : (p d o o′ : List ℕ) (limit at : ℕ) → o′ ≡ placed o
 length-next p d o o′ limit at e u v h =
     ap length e ∙ length-placed o at (take (limit - at) p) (omega (arith, length-take (limit - at) p)) ∙ h
 
-pub single-written : (p d e : List ℕ) (limit : ℕ) → limit ≤ length p → e ≡ placed d 0 (take (limit - 0) p) → e ≡ take limit p ++ drop limit d
-single-written p d e limit l h = let z : limit - 0 ≡ limit = omega arith in start-written p d e limit l (rw z at h)
-
 module _ (cells lengths : List ℕ) (s number : ℕ) (part : List ℕ) (limit : ℕ) (d : List ℕ) where
   pub written-start : Written (piece cells lengths s number part) limit d 0 0 d
   written-start = written-none (piece cells lengths s number part) limit d
@@ -103,6 +82,7 @@ module _ (cells lengths : List ℕ) (s number : ℕ) (part : List ℕ) (limit : 
       let h : k ≡ total = omega arith in
       let w′ = rw h at w in start-written (joined (piece cells lengths s number part) total) d o limit l (w′ .is)
 
+-- what the proofs over the cells, of the front, of writing and of handing out search
 pub ruleset cellSteps = (
   needs,
   part-from,
@@ -111,22 +91,28 @@ pub ruleset cellSteps = (
   short-at,
   piece-new,
   piece-held,
-  front-seen,
-  front-octets,
-  front-first,
-  count-none,
+)
+
+pub ruleset frontSteps = (
+  needs,
   front-none,
   front-next,
   front-all,
-  count-joined,
+)
+
+pub ruleset joinSteps = (
+  needs,
   put-past,
   put-inside,
   place-next,
   length-next,
-  single-written,
   written-start,
   written-next,
   written-whole,
+)
+
+pub ruleset handSteps = (
+  needs,
   none-told,
   none-kept,
   packet-inside,

@@ -1,5 +1,3 @@
-pub mod OrderLaws
-pub mod OrderSteps
 pub mod CellLaws
 pub mod CellSteps
 pub mod TakeLaws

@@ -12,17 +12,17 @@ use lib.ListN.{length, getD, List·getD-eq-default}
 use lib.Dec.{eqb, ltb}
 use borrow.Author.Tests.{ltb-true, ltb-false, eqb-true, not-false}
 use Rattle.octets.specs.Tests.{both, neither}
-use Rattle.packet.specs.declared.Kind.{Kind}
+use Rattle.types.specs.declared.Kind.{Kind}
 use Rattle.packet.specs.Packets.{mostOctets}
-use Rattle.arrival.specs.declared.Key.{Key}
-use Rattle.arrival.specs.declared.Arrival.{Arrival}
-use Rattle.arrival.specs.declared.Arrival.the-variants.{Single, Part, Refused}
+use Rattle.types.specs.declared.Key.{Key}
+use Rattle.types.specs.declared.Arrival.{Arrival}
+use Rattle.types.specs.declared.Arrival.the-variants.{Single, Part, Refused}
 use Rattle.arrival.specs.Arrivals.{toldArrival}
 use Rattle.arrival.specs.Message.{readMessage}
 use Rattle.arrival.specs.Page.{readPage}
 use Rattle.arrival.specs.Laws.{Admitted, message-part, message-single, page-part, page-single}
-use Rattle.slots.specs.declared.Slot.{Slot}
-use Rattle.slots.specs.declared.Record.{Record}
+use Rattle.types.specs.declared.Slot.{Slot}
+use Rattle.types.specs.declared.Record.{Record}
 use Rattle.slots.specs.BelowLaws.{count-at-most}
 use Rattle.slots.specs.Slots.{slotCount, slotAt, used, sameKey, bears, find}
 use Rattle.formed.specs.Formed.{recordFormed}

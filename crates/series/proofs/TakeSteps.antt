@@ -10,21 +10,22 @@ use lib.Dec.{eqb}
 use borrow.Author.Needs.{needs}
 use borrow.Author.Tests.{eq-eqb, ne-eqb, eqb-true}
 use Rattle.octets.specs.Octets.{placed, sameOctets}
-use Rattle.packet.specs.declared.Kind.{Kind}
-use Rattle.packet.specs.declared.Refusal.{Refusal}
-use Rattle.packet.specs.Refusals as refusal
+use Rattle.types.specs.declared.Kind.{Kind}
+use Rattle.types.specs.declared.Refusal.{Refusal}
+use Rattle.types.specs.Refusals as refusal
 use Rattle.packet.specs.Packets.{mostOctets}
-use Rattle.arrival.specs.declared.Key.{Key}
-use Rattle.arrival.specs.declared.Arrival.{Arrival}
-use Rattle.arrival.specs.declared.Arrival.the-variants as arrival
+use Rattle.types.specs.declared.Key.{Key}
+use Rattle.types.specs.declared.Arrival.{Arrival}
+use Rattle.types.specs.declared.Arrival.the-variants as arrival
 use Rattle.arrival.specs.Arrivals.{toldArrival}
 use Rattle.arrival.specs.Message.{mostParts, readMessage}
 use Rattle.arrival.specs.Page.{readPage}
 use Rattle.arrival.specs.Keys.{ofPages}
 use Rattle.arrival.specs.Laws.{Admitted}
-use Rattle.joined.specs.Fronts.{packetIn, toldSize, lengthIn, outputWith}
-use Rattle.slots.specs.declared.Slot.{Slot}
-use Rattle.slots.specs.declared.Record.{Record}
+use Rattle.joined.specs.Fronts.{packetIn, toldSize, lengthIn, outputWith, packetFor}
+use Rattle.joined.specs.Laws.{packet-for}
+use Rattle.types.specs.declared.Slot.{Slot}
+use Rattle.types.specs.declared.Record.{Record}
 use Rattle.joined.specs.declared.Size.{Size}
 use Rattle.joined.specs.declared.Size.the-variants as size
 use Rattle.slots.specs.declared.find.Found.{Found}
@@ -33,14 +34,15 @@ use Rattle.slots.specs.declared.find.Opening.{Opening}
 use Rattle.series.specs.declared.take.Step as code
 use Rattle.series.specs.declared.take.Step.the-variants.{Refuses, Repeats, Keeps, Finishes}
 use Rattle.slots.specs.BelowLaws.{all-from, all-more, all-through}
-use Rattle.slots.specs.Found.{toldFound, found-inside, openingIn, newPlace}
-use Rattle.slots.specs.Slots.{slotCount, slotAt, bears, isFree, find, leastRecent, opened, heldAt, lengthAt, withPart, toFront, freed, withSlots}
+use Rattle.slots.specs.Found.{toldFound, found-inside, openingIn, newPlace, slotIn, slot-in, withPartIn, with-part-in}
+use Rattle.slots.specs.Slots.{slotCount, slotAt, bears, isFree, find, opened, heldAt, lengthAt, withPart, toFront, freed, withSlots}
+use Rattle.slots.specs.Order.{frontIn, freedIn, front-in, freed-in}
 use Rattle.formed.specs.Formed.{recordFormed}
 use Rattle.series.specs.Cells.{cellsSize, cellAt, cellPart, joinedOctets}
 use Rattle.series.specs.Handing.{Short, cellStart, seriesOctets}
 use Rattle.series.specs.Taking.{State, Answer, After, kept, heldAlready, packet, refused, state, after, handOut, completes, Step, refuses, repeats, keeps, finishes, stepNew, step, acted, takePart, takeMessage, takePage}
 use Rattle.series.specs.KeepLaws.{Sound}
-use Rattle.series.specs.Deciding.{allWith, toldStep, stepAt, answerOf, Room, Whole, Fitting, takenWhereFit}
+use Rattle.series.specs.Deciding.{allWith, toldStep, stepAt, keyOf, answerOf, Room, Whole, Fitting, takenWhereFit}
 use Rattle.series.proofs.CellLaws.{cell-part, joined-pieces, short-at}
 use Rattle.series.proofs.TakeLaws as law
 use Rattle.series.proofs.TakeLaws.{message-fitting, page-fitting}
@@ -84,9 +86,20 @@ module _ (cells : List ℕ) (total number : ℕ) (octets : List ℕ) (i : ℕ) (
       go false e h = let z : _≡_ {A = ℕ} 0 1 = cc in absurd (omega arith)
 
 -- ---- acting
-pub part-kept : (r r′ : Record) (i number n : ℕ) (x y : Slot) → y ≡ withPart x number n → r′ ≡ withSlots r (toFront (r .slots) i y)
-    → r′ ≡ withSlots r (toFront (r .slots) i (withPart x number n))
-part-kept r r′ i number n x y e h = rw (← e) h
+module _ (r r′ : Record) (i : ℕ) where
+  pub part-kept : (number : ℕ) (octets cells : List ℕ) (n : ℕ) (x y : Slot) → Room r i number octets cells → y ≡ withPartIn x number n
+      → r′ ≡ frontIn slotCount r i y → r′ ≡ withSlots r (toFront (r .slots) i (withPart x number n))
+  part-kept number octets cells n x y room e h =
+      let w : y ≡ withPart x number n = e ∙ with-part-in x number n (room .place .1) (room .place .2) in
+      rw (← w) (h ∙ front-in slotCount r i (room .place .0) y (room .ranks))
+
+  pub comes-front : (x : Slot) → (i < slotCount) × ((j : ℕ) → slotAt (r .slots) j .rank < 255) → r′ ≡ frontIn slotCount r i x
+      → r′ ≡ withSlots r (toFront (r .slots) i x)
+  comes-front x (l, low) h = h ∙ front-in slotCount r i l x low
+
+  pub comes-free : (number : ℕ) (octets cells : List ℕ) → Room r i number octets cells → r′ ≡ freedIn slotCount r i
+      → r′ ≡ withSlots r (freed (r .slots) i)
+  comes-free number octets cells room h = h ∙ freed-in slotCount r i (room .place .0)
 
 module _ (z : Size) where
   pub answer-packet : (n : ℕ) → z ≡ size.Octets n → packet n ≡ answerOf (toldSize z)
@@ -95,8 +108,20 @@ module _ (z : Size) where
   pub answer-none : z ≡ size.None → refused 9 ≡ answerOf (toldSize z)
   answer-none e = rw e
 
-  pub answer-told : (a : Answer) (p : Option (List ℕ)) → a ≡ answerOf (toldSize z) → toldSize z ≡ lengthIn p → a ≡ answerOf (lengthIn p)
-  answer-told a p h e = h ∙ ap answerOf e
+-- a single message or page, for which the output has room
+module _ (k : Kind) (paged : Bool) (octets output : List ℕ) (fits : length octets ≤ length output) where
+  pub single-answer : (z : Size) (a : Answer) → toldSize z ≡ lengthIn (packetFor k paged octets (length output)) → a ≡ answerOf (toldSize z)
+      → a ≡ answerOf (lengthIn (packetIn k paged 1 octets))
+  single-answer z a e h = rw (← packet-for k paged octets (length output) fits, ← e) h
+
+  pub single-output : (o : List ℕ) → o ≡ outputWith (packetFor k paged octets (length output)) output
+      → o ≡ outputWith (packetIn k paged 1 octets) output
+  single-output o e = rw (← packet-for k paged octets (length output) fits) e
+
+-- slot i of a record, as the code copies it
+pub slot-copied : (r : Record) (i number : ℕ) (octets cells : List ℕ) (x : Slot) → Room r i number octets cells
+    → x ≡ slotIn slotCount (r .slots) i → x ≡ slotAt (r .slots) i
+slot-copied r i number octets cells x room e = e ∙ slot-in slotCount (r .slots) i (room .place .0)
 
 -- the parts of a slot y, which the code has copied as x, with the one that arrives
 module _ (y x : Slot) (copied : x ≡ y) (i number : ℕ) (octets cells output : List ℕ) where
@@ -140,40 +165,56 @@ handed-out : (s : State) (r : Record) (a : Answer) (o : List ℕ) (p : Option (L
 handed-out s r a o none h e = rw (h, e)
 handed-out s r a o (some p) h e = rw (h, e)
 
+of-key : (paged : Bool) → ofPages (keyOf paged) ≡ paged
+of-key true = refl
+of-key false = refl
+
+-- what acting comes to, by whether the key is of pages
+acted-by : (s : State) (key : Key) (total number : ℕ) (octets : List ℕ) (st : Step)
+    → acted slotCount s (keyOf (ofPages key)) total number octets st ≡ acted slotCount s key total number octets st
+acted-by s key total number octets (refuses m) = refl
+acted-by s key total number octets (repeats i) = refl
+acted-by s key total number octets (keeps i d x) = refl
+acted-by s key total number octets (finishes i) = rw (of-key (ofPages key))
+
 -- a part of the series x in slot i, where step z is due
-module _ (r : Record) (cells output : List ℕ) (key : Key) (total number : ℕ) (octets : List ℕ) (i : ℕ) (x : Slot)
-    (copied : x ≡ slotAt (r .slots) i) (z : code.Step) (told : toldStep i x z ≡ stepAt cells total number octets i x) (a : Answer) (r′ : Record) where
+module _ (r : Record) (cells output : List ℕ) (paged : Bool) (total number : ℕ) (octets : List ℕ) (i : ℕ) (x : Slot)
+    (copied : x ≡ slotIn slotCount (r .slots) i) (room : Room r i number octets cells) (z : code.Step) (told : toldStep i x z ≡ stepAt cells total number octets i x) (a : Answer) (r′ : Record) where
   abbrev due : After
-  due = acted slotCount (state r cells output) key total number octets (stepAt cells total number octets i (slotAt (r .slots) i))
+  due = acted slotCount (state r cells output) (keyOf paged) total number octets (stepAt cells total number octets i (slotAt (r .slots) i))
+
+  here : x ≡ slotAt (r .slots) i
+  here = copied ∙ slot-in slotCount (r .slots) i (room .place .0)
 
   pub acts-refuses : (q : Refusal) → z ≡ Refuses q → a ≡ refused (refusal.numberOf q) → r′ ≡ r → after a r′ cells output ≡ due
-  acts-refuses q e h f = rw (← copied, ← told, e, h, f)
+  acts-refuses q e h f = rw (← here, ← told, e, h, f)
 
   pub acts-repeats : z ≡ Repeats → a ≡ heldAlready i → r′ ≡ withSlots r (toFront (r .slots) i x) → after a r′ cells output ≡ due
-  acts-repeats e h f = rw (h, f, ← copied, ← told, e, copied)
+  acts-repeats e h f = rw (h, f, ← here, ← told, e, here)
 
   pub acts-keeps : (cells′ : List ℕ) → z ≡ Keeps → a ≡ kept i false → r′ ≡ withSlots r (toFront (r .slots) i (withPart x number (length octets)))
       → cells′ ≡ placed cells (cellAt i number) octets → after a r′ cells′ output ≡ due
-  acts-keeps cells′ e h f g = rw (← copied, ← told, e, h, f, g)
+  acts-keeps cells′ e h f g = rw (← here, ← told, e, h, f, g)
 
   pub acts-finishes : (o : List ℕ) → z ≡ Finishes
-      → a ≡ answerOf (lengthIn (packetIn (r .kind) (ofPages key) (slotAt (r .slots) i .total) (joinedOctets cells (slotAt (r .slots) i) i number octets)))
+      → a ≡ answerOf (lengthIn (packetIn (r .kind) (paged) (slotAt (r .slots) i .total) (joinedOctets cells (slotAt (r .slots) i) i number octets)))
       → r′ ≡ withSlots r (freed (r .slots) i)
-      → o ≡ outputWith (packetIn (r .kind) (ofPages key) (slotAt (r .slots) i .total) (joinedOctets cells (slotAt (r .slots) i) i number octets)) output
+      → o ≡ outputWith (packetIn (r .kind) (paged) (slotAt (r .slots) i .total) (joinedOctets cells (slotAt (r .slots) i) i number octets)) output
       → after a r′ cells o ≡ due
   acts-finishes o e h f g =
       let t : x .total ≡ total = finish-total cells total number octets i x (rw e at told) in
-      rw (← copied, ← told, e, f, ← t, copied)
-      (handed-out (state r cells output) (withSlots r (freed (r .slots) i)) a o (packetIn (r .kind) (ofPages key) (slotAt (r .slots) i .total) (joinedOctets cells (slotAt (r .slots) i) i number octets)) h g)
+      rw (← here, ← told, e, f, ← t, here, of-key paged)
+      (handed-out (state r cells output) (withSlots r (freed (r .slots) i)) a o (packetIn (r .kind) (paged) (slotAt (r .slots) i .total) (joinedOctets cells (slotAt (r .slots) i) i number octets)) h g)
 
 -- ---- a part
 module _ (r : Record) (cells output : List ℕ) (key : Key) (total number : ℕ) (octets : List ℕ) (f : Found)
     (told : toldFound f ≡ find (bears key) (r .slots)) where
   pub part-more : (i : ℕ) (a : After) → f ≡ At i
-      → a ≡ acted slotCount (state r cells output) key total number octets (stepAt cells total number octets i (slotAt (r .slots) i))
+      → a ≡ acted slotCount (state r cells output) (keyOf (ofPages key)) total number octets (stepAt cells total number octets i (slotAt (r .slots) i))
       → a ≡ takePart slotCount (state r cells output) key total number octets
   unfolding takePart step
-  part-more i a e h = rw (← told, e) h
+  part-more i a e h =
+      rw (← told, e) (h ∙ acted-by (state r cells output) key total number octets (stepAt cells total number octets i (slotAt (r .slots) i)))
 
   opens-at : (q : Option ℕ) → let o : Opening = openingIn slotCount (r .slots) q in
       after (kept (o .slot) (o .displaced)) (withSlots r (toFront (r .slots) (o .slot) (withPart (opened key total) number (length octets))))
@@ -274,20 +315,39 @@ pub ruleset decideSteps = (
 pub ruleset actSteps = (
   needs,
   part-kept,
+  comes-front,
   answer-packet,
   answer-none,
-  answer-told,
+  single-answer,
+  single-output,
+)
+
+pub ruleset finishSteps = (
+  needs,
+  slot-copied,
   whole-short,
-  whole-most,
   whole-some,
   whole-total,
   whole-fits,
   whole-answer,
   whole-output,
+  comes-free,
+)
+
+pub ruleset moreSteps = (
+  needs,
+  slot-copied,
+  whole-short,
+  whole-most,
   acts-refuses,
   acts-repeats,
   acts-keeps,
   acts-finishes,
+)
+
+pub ruleset partSteps = (
+  needs,
+  found-inside,
   part-more,
   part-opens,
   more-room,

@@ -1,8 +1,8 @@
 -- Calls, one function for messages and pages.
 use Prim.Native.Nat.{ℕ}
 use mathlib.Core.List.{List}
-use Rattle.packet.specs.declared.Kind.{Kind}
-use Rattle.packet.specs.Refusals.{Outcome}
+use Rattle.types.specs.declared.Kind.{Kind}
+use Rattle.types.specs.Refusals.{Outcome}
 use Rattle.arrival.specs.Arrivals.{Brought}
 use Rattle.arrival.specs.Message.{readMessage}
 use Rattle.arrival.specs.Page.{readPage}

@@ -1,21 +1,20 @@
 -- What a part does, by cases: each step with the facts under which 01 asks for it.
-use Prim.Native.Nat.{ℕ, zero, suc, _≤_, _<_}
-use mathlib.Core.Path.{_≡_, refl, sym, ap, _∙_}
-use mathlib.Core.Bool.{Bool, true, false, not, cond, _&&_}
+use Prim.Native.Nat.{ℕ, _<_}
+use mathlib.Core.Path.{_≡_, refl}
+use mathlib.Core.Bool.{Bool, true, false, not, cond}
 use mathlib.Core.List.{List}
-use mathlib.Core.Option.{Option, none, some}
+use mathlib.Core.Option.{Option}
 use native.Mathlib.Omega.{arith}
-use lib.ListN.{length}
 use lib.Dec.{eqb}
-use borrow.Author.Tests.{eqb-true, eqb-false, not-true, not-false, ne-eqb}
+use borrow.Author.Tests.{eqb-true, eqb-false, ne-eqb}
 use Rattle.octets.specs.Octets.{sameOctets}
 use Rattle.octets.specs.Laws.{same-true, same-false}
 use Rattle.octets.specs.Tests.{clash, both}
-use Rattle.arrival.specs.declared.Key.{Key}
-use Rattle.slots.specs.declared.Slot.{Slot}
+use Rattle.types.specs.declared.Key.{Key}
+use Rattle.types.specs.declared.Slot.{Slot}
 use Rattle.slots.specs.Slots.{slotAt, opened, used, sameKey, bears, isFree, find, isLeastRecent, slotOr, heldAt}
 use Rattle.series.specs.Cells.{cellPart}
-use Rattle.series.specs.Taking.{State, Step, refuses, repeats, keeps, finishes, completes, stepIn, stepNew, stepFor, step}
+use Rattle.series.specs.Taking.{State, Step, refuses, repeats, keeps, finishes, completes, stepNew, stepFor, step}
 use Rattle.slots.specs.RankLaws.{pos-taken, last-rank}
 use Rattle.slots.specs.FrontLaws.{same-key, key-same, Found, hit, miss, find?}
 use Rattle.formed.specs.Laws.{Formed}

@@ -1,19 +1,19 @@
 -- What writing one cell does to what is read of the cells, and what parts join to.
 use Prim.Native.Nat.{ℕ, zero, suc, _+_, _-_, _*_, _≤_, _<_}
 use mathlib.Core.Path.{_≡_, refl, sym, ap, _∙_}
-use mathlib.Core.Bool.{Bool, true, false, cond}
-use mathlib.Core.Logic.{_⊎_, inl, inr, ⊎-elim}
-use mathlib.Core.List.{List, [], _∷_, _++_, append-assoc, append-nil}
+use mathlib.Core.Bool.{Bool, true, false}
+use mathlib.Core.Logic.{_⊎_, ⊎-elim}
+use mathlib.Core.List.{List, _++_, append-assoc}
 use native.Mathlib.Omega.{arith}
-use lib.ListN.{length, getD, take, drop, length-take, length-drop, length-append, take-append-drop}
+use lib.ListN.{length, take, drop, length-drop, length-append, take-append-drop}
 use lib.Dec.{ltb}
 use borrow.Author.Tests.{ltb-true, ltb-false}
 use native.Mathlib.Nat.{eq-or-lt-of-le}
-use lib.Seq.{take-append-le, drop-append-le, take-at, drop-at, take-all, take-take, drop-drop, take-append-add, drop-append-add, length-take-le, take-length}
+use lib.Seq.{take-append-le, drop-append-le, take-at, drop-at, drop-drop, drop-append-add, length-take-le}
 use Rattle.octets.specs.Octets.{placed}
 use Rattle.octets.specs.Laws.{length-placed}
 use Rattle.arrival.specs.Message.{mostParts}
-use Rattle.slots.specs.declared.Slot.{Slot}
+use Rattle.types.specs.declared.Slot.{Slot}
 use Rattle.slots.specs.Slots.{lengthAt}
 use Rattle.series.specs.Cells.{cellOctets, cellsSize, cellAt, cellPart, joined}
 

@@ -1,17 +1,13 @@
 -- The cells, where the parts of unfinished series are kept, and the octets that parts join to (01, "Numbers", "Series").
-use Prim.Native.Nat.{ℕ, zero, suc, _+_, _-_, _*_}
-use mathlib.Core.Bool.{Bool, true, false, not, cond, _&&_, _||_}
-use mathlib.Core.List.{List, [], _++_}
-use mathlib.Core.Option.{Option, none, some}
-use lib.ListN.{length, take, drop}
-use lib.Dec.{eqb, leb}
+use Prim.Native.Nat.{ℕ, _+_, _-_, _*_}
+use mathlib.Core.Bool.{cond}
+use mathlib.Core.List.{List}
+use lib.ListN.{take, drop}
+use lib.Dec.{eqb}
 unfoldable pub use Rattle.octets.specs.Joined.{joined}
-use Rattle.packet.specs.declared.Kind.{Kind}
-use Rattle.packet.specs.Packets.{cpl, wellFormed}
 use Rattle.arrival.specs.Message.{mostParts}
-use Rattle.arrival.specs.Page.{pageContent}
-use Rattle.slots.specs.declared.Slot.{Slot}
-use Rattle.slots.specs.Slots.{slotAt, lengthAt}
+use Rattle.types.specs.declared.Slot.{Slot}
+use Rattle.slots.specs.Slots.{lengthAt}
 
 -- "Cells: one lent buffer of 6,432 octets (3 × 16 × 134)"
 abbrev pub cellOctets : ℕ

@@ -6,16 +6,17 @@ use mathlib.Core.Path.{_≡_}
 use mathlib.Core.Option.{Option, none, some}
 use lib.ListN.{length, getD, drop}
 use lib.Dec.{eqb}
-use Rattle.packet.specs.declared.Kind.{Kind}
-use Rattle.packet.specs.declared.Kind.the-variants.{Command}
-use Rattle.packet.specs.Refusals.{Outcome, numberOf}
+use Rattle.types.specs.declared.Kind.{Kind}
+use Rattle.types.specs.declared.Kind.the-variants.{Command}
+use Rattle.types.specs.Refusals.{Outcome, numberOf}
 use Rattle.packet.specs.Packets.{mostOctets}
-use Rattle.arrival.specs.declared.Arrival as arrival
+use Rattle.types.specs.declared.Key.{Key}
+use Rattle.types.specs.declared.Arrival as arrival
 use Rattle.arrival.specs.Arrivals.{Brought}
 use Rattle.arrival.specs.Message.{mostParts}
 use Rattle.arrival.specs.Laws.{Admitted}
-use Rattle.slots.specs.declared.Slot.{Slot}
-use Rattle.slots.specs.declared.Record.{Record}
+use Rattle.types.specs.declared.Slot.{Slot}
+use Rattle.types.specs.declared.Record.{Record}
 use Rattle.series.specs.declared.take.Step as declared
 use Rattle.series.specs.declared.take.Step.the-variants.{Refuses, Repeats, Keeps, Finishes}
 use Rattle.slots.specs.Below.{allBelow}
@@ -39,6 +40,11 @@ toldStep i x Finishes = finishes i
 -- of `stepIn`: it looks at the cells and at x, and at nothing else of the state
 abbrev pub stepAt : List ℕ → ℕ → ℕ → List ℕ → ℕ → Slot → Step
 stepAt cells total number octets = stepIn 0 (state (freshRecord 0 Command) cells []) noKey total number octets
+
+-- Acting looks at one thing of a key, whether it is of pages: a key that is, and one that is not.
+abbrev pub keyOf : Bool → Key
+keyOf true = noKey
+keyOf false = record { sender = 0; width = 8; reference = 0; serial = record { 0 = 0 }; identifier = record { 0 = 0 } }
 
 -- ---- acting
 -- the answer to a packet of that length, and to none

@@ -1,18 +1,10 @@
--- What the functions on cells and joined octets cite of one another: part by part from the lengths of a slot, and of joined octets their
--- count and the first three, which is all that tells whether a packet is in them.
-use Prim.Native.Nat.{ℕ, _+_, _-_, _≤_, _<_, min}
-use mathlib.Core.Bool.{Bool, true, false, not, cond, _&&_, _||_}
-use mathlib.Core.List.{List, _++_}
-use mathlib.Core.Option.{Option, none, some}
-use lib.ListN.{length, getD, take, drop}
-use lib.Dec.{eqb, ltb}
-use Rattle.octets.specs.Octets.{numberOf}
-use Rattle.packet.specs.declared.Kind.{Kind}
-use Rattle.packet.specs.Packets.{formedBy}
+-- What the functions on cells cite of one another: where a part lies, and the octets of a series, part by part from the lengths of its slot.
+use Prim.Native.Nat.{ℕ, _-_, _≤_, _<_}
+use mathlib.Core.Bool.{cond}
+use mathlib.Core.List.{List}
+use lib.ListN.{getD, take, drop}
+use lib.Dec.{eqb}
 use Rattle.arrival.specs.Message.{mostParts}
-use Rattle.joined.specs.declared.Front.{Front}
-use Rattle.joined.specs.declared.Size.{Size}
-use Rattle.joined.specs.declared.Size.the-variants as size
 use Rattle.slots.specs.Slots.{slotCount}
 use Rattle.series.specs.Cells.{cellOctets, cellAt, joined}
 

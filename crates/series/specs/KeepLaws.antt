@@ -1,33 +1,31 @@
 -- Taking keeps a well-formed record well formed, and the cells as long as they were.
-use Prim.Native.Nat.{ℕ, suc, _+_, _-_, _≤_, _<_}
-use mathlib.Core.Path.{_≡_, refl, sym, ap, _∙_, subst}
-use mathlib.Core.Bool.{Bool, true, false, cond, not, _||_}
+use Prim.Native.Nat.{ℕ, _-_, _≤_, _<_}
+use mathlib.Core.Path.{_≡_, refl, sym, _∙_}
+use mathlib.Core.Bool.{Bool, true, false, cond}
 use mathlib.Core.List.{List}
 use mathlib.Core.Option.{Option, none, some}
 use native.Mathlib.Omega.{arith}
 use lib.ListN.{length, drop}
 use lib.Dec.{eqb, leb}
-use borrow.Author.Tests.{leb-true, eqb-true, ne-eqb, not-false}
-use Rattle.octets.specs.Tests.{clash, neither}
-use Rattle.packet.specs.declared.Kind.{Kind}
-use Rattle.packet.specs.Packets.{mostOctets}
-use Rattle.packet.specs.Refusals as reading
-use Rattle.arrival.specs.declared.Key.{Key}
+use borrow.Author.Tests.{leb-true, eqb-true}
+use Rattle.types.specs.declared.Kind.{Kind}
+use Rattle.types.specs.Refusals as reading
+use Rattle.types.specs.declared.Key.{Key}
 use Rattle.arrival.specs.Arrivals.{Brought, single, part}
 use Rattle.arrival.specs.Message.{mostParts}
-use Rattle.arrival.specs.Keys.{ofPages, room, lengthFits}
+use Rattle.arrival.specs.Keys.{ofPages, lengthFits}
 use Rattle.arrival.specs.Laws.{Admitted}
 use Rattle.joined.specs.Fronts.{packetIn}
-use Rattle.slots.specs.declared.Slot.{Slot}
-use Rattle.slots.specs.declared.Record.{Record}
-use Rattle.slots.specs.Slots.{slotAt, opened, atRank, withPart, heldAt, toFront, freed, withSlots}
-use Rattle.formed.specs.Formed.{slotFormed, recordFormed}
-use Rattle.formed.specs.Laws.{Formed, UsedSlot, formed-tells, slot-tells, slot-front, front-formed, free-formed}
+use Rattle.types.specs.declared.Slot.{Slot}
+use Rattle.types.specs.declared.Record.{Record}
+use Rattle.slots.specs.Slots.{slotAt, opened, atRank, withPart, heldAt, freed, withSlots}
+use Rattle.formed.specs.Formed.{slotFormed}
+use Rattle.formed.specs.Laws.{Formed, UsedSlot, slot-tells, slot-front, front-formed, free-formed}
 use Rattle.series.specs.PartLaws.{total-bounds, ready-held, ready-opened, part-more}
-use Rattle.series.specs.CaseLaws.{Bears, Lacks, Case, other-total, other-octets, again, last, more, opens, displaces, case-of}
+use Rattle.series.specs.CaseLaws.{Bears, Case, other-total, other-octets, again, last, more, opens, displaces, case-of}
 use Rattle.series.specs.Cells.{cellOctets, cellsSize, joinedOctets}
 use Rattle.series.specs.CellLaws.{cells-size}
-use Rattle.series.specs.Taking.{completes, State, After, Step, refuses, repeats, keeps, finishes, handOut, acted, step, takePart, taken, unfit}
+use Rattle.series.specs.Taking.{completes, State, After, Step, refuses, repeats, keeps, finishes, handOut, acted, step, takePart, taken}
 
 -- a part's octets fit its cell
 pub short : (key : Key) (number : ℕ) (size : ℕ) → lengthFits key number size ≡ true → size ≤ cellOctets

@@ -6,5 +6,4 @@ pub mod CellLaws
 pub mod KeepLaws
 pub mod Calls
 pub mod Handing
-pub mod Order
 pub mod Deciding

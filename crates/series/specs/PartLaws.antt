@@ -1,18 +1,18 @@
 -- A slot with one part more is well formed, whether its series was there or is opened by the part.
-use Prim.Native.Nat.{ℕ, zero, suc, _+_, _-_, _≤_, _<_}
-use mathlib.Core.Path.{_≡_, refl, sym, ap, _∙_}
-use mathlib.Core.Bool.{Bool, true, false, not, cond, _&&_, _||_}
+use Prim.Native.Nat.{ℕ, _+_, _-_, _≤_, _<_}
+use mathlib.Core.Path.{_≡_, refl, ap, _∙_}
+use mathlib.Core.Bool.{Bool, true, false, cond, _||_}
 use native.Mathlib.Omega.{arith}
-use lib.ListN.{length, getD, set, length-set, length-replicate, getD-replicate}
+use lib.ListN.{length, length-set, length-replicate, getD-replicate}
 use lib.Seq.{getD-set-same, getD-set-other}
 use lib.Dec.{eqb, ltb, leb}
-use borrow.Author.Tests.{eq-eqb, ne-eqb, ltb-true, lt-ltb, leb-true, eqb-false}
-use Rattle.octets.specs.Tests.{clash, both, neither, Same, same, other, same?}
-use Rattle.packet.specs.declared.Kind.{Kind}
-use Rattle.arrival.specs.declared.Key.{Key}
+use borrow.Author.Tests.{lt-ltb, leb-true, eqb-false}
+use Rattle.octets.specs.Tests.{both, neither, Same, same, other, same?}
+use Rattle.types.specs.declared.Kind.{Kind}
+use Rattle.types.specs.declared.Key.{Key}
 use Rattle.arrival.specs.Message.{mostParts}
 use Rattle.arrival.specs.Keys.{ofPages, keyFormed, totalFits, lengthFits}
-use Rattle.slots.specs.declared.Slot.{Slot}
+use Rattle.types.specs.declared.Slot.{Slot}
 use Rattle.slots.specs.Below.{countBelow}
 use Rattle.slots.specs.BelowLaws.{all-fails, count-one, count-less, count-below}
 use Rattle.slots.specs.Slots.{opened, heldAt, withPart}

@@ -6,19 +6,19 @@ use mathlib.Core.Option.{Option, none, some}
 use lib.ListN.{length, drop}
 use lib.Dec.{eqb}
 use Rattle.octets.specs.Octets.{placed, sameOctets}
-use Rattle.packet.specs.Refusals as refusal
+use Rattle.types.specs.Refusals as refusal
 use Rattle.packet.specs.Packets.{mostOctets}
-use Rattle.arrival.specs.declared.Key.{Key}
+use Rattle.types.specs.declared.Key.{Key}
 use Rattle.arrival.specs.Arrivals.{Brought, single, part}
 use Rattle.arrival.specs.Message.{readMessage}
 use Rattle.arrival.specs.Page.{readPage}
 use Rattle.arrival.specs.Keys.{ofPages}
 use Rattle.joined.specs.Fronts.{packetIn}
-use Rattle.slots.specs.declared.Slot.{Slot}
-use Rattle.slots.specs.declared.Record.{Record}
-use Rattle.series.specs.declared.Answer as declared
+use Rattle.types.specs.declared.Slot.{Slot}
+use Rattle.types.specs.declared.Record.{Record}
+use Rattle.types.specs.declared.Answer as declared
 use Rattle.slots.specs.Below.{allBelow}
-use Rattle.slots.specs.Slots.{slotAt, used, bears, isFree, find, slotOr, leastRecent, opened, heldAt, withPart, toFront, freed, withSlots}
+use Rattle.slots.specs.Slots.{slotAt, bears, isFree, find, leastRecent, opened, heldAt, withPart, toFront, freed, withSlots}
 use Rattle.formed.specs.Formed.{recordFormed, markAt}
 use Rattle.series.specs.Cells.{cellsSize, cellAt, cellPart, joinedOctets}
 

@@ -1,6 +1,7 @@
 // The cells, where the parts of unfinished series lie in the buffer that the caller lends: a part is stored, compared and read again.
-use slots::PARTS;
-use slots::SLOTS;
+use types::PART_OCTETS;
+use types::PARTS;
+use types::SLOTS;
 ghost use mathlib.Core.Path.{_≡_};
 ghost use Prim.Native.Nat.{_≤_};
 ghost use lib.ListN.{length};
@@ -9,17 +10,15 @@ ghost use Rattle.slots.specs.Slots.{slotCount};
 ghost use Rattle.series.specs.Cells.{cellOctets, cellsSize, cellAt};
 ghost use Rattle.series.specs.Handing.{Place, cellStart, Short, pieceOf};
 
-// How many octets a cell has, and all of them together.
-const CELL_OCTETS: usize = 134;
-
-pub(crate) const CELLS: usize = SLOTS * PARTS * CELL_OCTETS;
+// How many octets the cells have together: one for each part of each slot, as long as a part can be.
+pub(crate) const CELLS: usize = SLOTS * PARTS * PART_OCTETS;
 
 // Where part k of slot s begins.
 pub(crate) fn cell_at(s: usize, k: usize) -> usize
     requires { ⌜ Place s k ⌝ }
     ensures { λ r. ⌜ r ≡ cellAt s k ⌝ }
 {
-    (PARTS * s + k - 1) * CELL_OCTETS
+    (PARTS * s + k - 1) * PART_OCTETS
 }
 
 // The first n octets of a cell, where they lie.
@@ -54,7 +53,7 @@ pub(crate) fn same_part(cells: &[u8], s: usize, k: usize, n: u8, part: &[u8]) ->
 // Part k of a series, where it lies: the part that arrives, where k is its number, and otherwise the one that the cells hold.
 pub(crate) fn piece<'a>(
     cells: &'a [u8],
-    lengths: &[u8; 16],
+    lengths: &[u8; PARTS],
     s: usize,
     k: usize,
     number: usize,

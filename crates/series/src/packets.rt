@@ -1,55 +1,26 @@
-// The packet that the parts of a series join to, or that a single message or page brings: whether there is one is told before the first of
-// its octets is written, from the front of the joined octets; then it is written, each octet once.
+// The packet that the parts of a series join to: whether there is one is told before the first of its octets is written, from the front of
+// the joined octets; then it is written, each octet once.
 use crate::cells;
 use joined::Front;
 use joined::Size;
-use packet::Kind;
+use types::Kind;
+use types::PARTS;
 ghost use mathlib.Core.Path.{_≡_};
-ghost use mathlib.Core.List.{[], _++_};
-ghost use Prim.Native.Nat.{_+_, _-_, _*_, _≤_, _<_};
+ghost use mathlib.Core.List.{_++_};
+ghost use Prim.Native.Nat.{_+_, _-_, _≤_, _<_};
 ghost use lib.ListN.{length, take, drop};
 ghost use Rattle.octets.specs.Octets.{placed};
 ghost use Rattle.arrival.specs.Message.{mostParts};
-ghost use Rattle.joined.specs.Fronts.{pagesAllow, packetIn, frontOf, octetAfter, frontAfter, sizeIn, sizeBy, toldSize, lengthIn, outputWith};
+ghost use Rattle.joined.specs.Fronts.{packetIn, frontOf, toldSize, lengthIn, outputWith};
 ghost use Rattle.slots.specs.Slots.{slotCount};
 ghost use Rattle.series.specs.Cells.{cellOctets, cellsSize};
 ghost use Rattle.series.specs.Handing.{Short, seriesOctets};
 
 // ---- the front
-// The front, with p behind what it is the front of. Once three octets have been seen, only the count grows.
-fn extended(f: Front, p: &[u8]) -> Front
-    requires { ⌜ f .count ≤ mostParts * cellOctets ⌝ }
-    ensures { λ r. ⌜ r ≡ frontAfter f (now (p .entry)) ⌝ }
-{
-    let n = f.count;
-    let count = n + p.len();
-    if 3 <= n {
-        return Front {
-            count: count,
-            high: f.high,
-            low: f.low,
-            header: f.header,
-        };
-    }
-    Front {
-        count: count,
-        high: joined::octet_after(0, n, f.high, p),
-        low: joined::octet_after(1, n, f.low, p),
-        header: joined::octet_after(2, n, f.header, p),
-    }
-}
-
-// The front of a single message or page.
-pub(crate) fn front_of(p: &[u8]) -> Front
-    ensures { λ r. ⌜ r ≡ frontOf (now (p .entry)) ⌝ }
-{
-    extended(joined::no_front(), p)
-}
-
 // The front of what the parts of a series join to.
 pub(crate) fn joined_front<'a>(
     cells: &'a [u8],
-    lengths: &[u8; 16],
+    lengths: &[u8; PARTS],
     total: usize,
     s: usize,
     number: usize,
@@ -64,7 +35,7 @@ pub(crate) fn joined_front<'a>(
     let mut k = 0;
     while k < total {
         k = k + 1;
-        f = extended(f, cells::piece(cells, lengths, s, k, number, part));
+        f = joined::extended(f, cells::piece(cells, lengths, s, k, number, part));
     }
     f
 }
@@ -81,18 +52,10 @@ fn put_up_to(p: &[u8], limit: usize, out: &mut [u8], at: usize) -> usize
     at + q.len()
 }
 
-// Writes the first `limit` octets of a single message or page at the start of out; the rest of out stays.
-pub(crate) fn copy_single(part: &[u8], limit: usize, out: &mut [u8])
-    requires { ⌜ (limit ≤ length (now part)) × (limit ≤ length (now out)) ⌝ }
-    ensures { λ _. ⌜ now (out .exit) ≡ take limit (now (part .entry)) ++ drop limit (now (out .entry)) ⌝ }
-{
-    put_up_to(part, limit, out, 0);
-}
-
 // Writes the first `limit` octets of what the parts of a series join to at the start of out, each from where it lies; the rest of out stays.
 pub(crate) fn join<'a>(
     cells: &'a [u8],
-    lengths: &[u8; 16],
+    lengths: &[u8; PARTS],
     total: usize,
     s: usize,
     number: usize,
@@ -126,7 +89,7 @@ pub(crate) fn hand_out<'a>(
     kind: Kind,
     paged: bool,
     cells: &'a [u8],
-    lengths: &[u8; 16],
+    lengths: &[u8; PARTS],
     total: usize,
     s: usize,
     number: usize,
@@ -145,22 +108,6 @@ pub(crate) fn hand_out<'a>(
     match size {
         Size::Octets(n) => {
             join(cells, lengths, total, s, number, part, n, out);
-            Size::Octets(n)
-        }
-        Size::None => Size::None,
-    }
-}
-
-// Hands out the packet of a single message or page in the same way.
-pub(crate) fn hand_out_single(kind: Kind, paged: bool, part: &[u8], out: &mut [u8]) -> Size
-    requires { ⌜ length (now part) ≤ length (now out) ⌝ }
-    ensures { λ r. ⌜ toldSize r ≡ lengthIn (packetIn kind paged 1 (now (part .entry))) ⌝ }
-    ensures { λ _. ⌜ now (out .exit) ≡ outputWith (packetIn kind paged 1 (now (part .entry))) (now (out .entry)) ⌝ }
-{
-    let size = joined::packet_size(kind, paged, 1, front_of(part));
-    match size {
-        Size::Octets(n) => {
-            copy_single(part, n, out);
             Size::Octets(n)
         }
         Size::None => Size::None,

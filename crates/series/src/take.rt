@@ -1,27 +1,29 @@
 // Taking a message or a page (01, "Series" and "Numbers of refusal"): 1, then what reading refuses, then 7, 8, 9. What is due is decided
 // before anything is written.
-use crate::Answer;
-use crate::Taken;
 use crate::cells;
 use crate::cells::CELLS;
-use crate::order;
 use crate::packets;
-use arrival::Arrival;
-use arrival::Key;
 use formed::record_formed;
 use joined::Size;
-use packet::Refusal;
-use slots::Record;
-use slots::Slot;
 use slots::find;
 use slots::find::Found;
+use slots::order;
+use types::Answer;
+use types::Arrival;
+use types::Key;
+use types::MOST_OCTETS;
+use types::PARTS;
+use types::Record;
+use types::Refusal;
+use types::Slot;
+use types::Taken;
 ghost use mathlib.Core.Path.{_≡_};
 ghost use mathlib.Core.Bool.{not, _||_};
 ghost use Prim.Native.Nat.{ℕ, _≤_, _<_};
 ghost use lib.ListN.{length};
 ghost use lib.Dec.{eqb};
 ghost use Rattle.octets.specs.Octets.{placed};
-ghost use Rattle.packet.specs.Refusals.{numberOf};
+ghost use Rattle.types.specs.Refusals.{numberOf};
 ghost use Rattle.packet.specs.Packets.{mostOctets};
 ghost use Rattle.arrival.specs.Arrivals.{toldArrival};
 ghost use Rattle.arrival.specs.Message.{mostParts};
@@ -34,10 +36,7 @@ ghost use Rattle.series.specs.Handing.{Place, Short};
 ghost use Rattle.series.specs.Taking as rule;
 ghost use Rattle.series.specs.Taking.{toldAnswer, after};
 ghost use Rattle.series.specs.KeepLaws.{Sound};
-ghost use Rattle.series.specs.Deciding.{allWith, toldStep, stepAt, answerOf, Room, Whole, Fitting, takenWhereFit};
-
-// The most octets of a packet, and so the length of the output.
-const MOST_OCTETS: usize = 2142;
+ghost use Rattle.series.specs.Deciding.{allWith, toldStep, stepAt, keyOf, answerOf, Room, Whole, Fitting, takenWhereFit};
 
 // What a part of a series that is there does.
 pub(crate) enum Step {
@@ -49,7 +48,7 @@ pub(crate) enum Step {
 
 // ---- deciding
 // Whether each part up to the total is marked, or has the number.
-fn all_with(held: &[bool; 16], total: u8, number: usize) -> bool
+fn all_with(held: &[bool; PARTS], total: u8, number: usize) -> bool
     requires { ⌜ total ≤ mostParts ⌝ }
     ensures { λ r. ⌜ r ≡ allWith (now (held .entry)) total number ⌝ }
 {
@@ -127,7 +126,7 @@ fn keep(
 {
     cells::store(cells, i, number, part);
     let n = part.len() as u8;
-    let y = order::with_part(x, number, n);
+    let y = find::with_part(x, number, n);
     Taken {
         answer: Answer::Kept {
             slot: i,
@@ -162,7 +161,7 @@ fn finish<'a>(
     ensures { λ r. ⌜ (toldAnswer (r .answer) ≡ answerOf (lengthIn (packetIn (state .kind) paged (slotAt (state .slots) i .total) (joinedOctets (now (cells .entry)) (slotAt (state .slots) i) i number (now (part .entry)))))) × (r .record ≡ withSlots state (freed (state .slots) i)) ⌝ }
     ensures { λ _. ⌜ now (out .exit) ≡ outputWith (packetIn (state .kind) paged (slotAt (state .slots) i .total) (joinedOctets (now (cells .entry)) (slotAt (state .slots) i) i number (now (part .entry)))) (now (out .entry)) ⌝ }
 {
-    let x = order::slot_at(state, i);
+    let x = find::slot_at(state, i);
     let total = octets::wide(x.total);
     let kind = state.kind;
     let size = packets::hand_out(kind, paged, cells, &x.lengths, total, i, number, part, out);
@@ -176,7 +175,7 @@ fn finish<'a>(
 fn take_more(
     state: Record,
     i: usize,
-    key: Key,
+    paged: bool,
     total: u8,
     number: usize,
     part: &[u8],
@@ -185,15 +184,15 @@ fn take_more(
 ) -> Taken
     requires { ⌜ Room state i number (now part) (now cells) ⌝ }
     requires { ⌜ Whole (slotAt (state .slots) i) i number (now part) (now cells) (now out) ⌝ }
-    ensures { λ r. ⌜ after (toldAnswer (r .answer)) (r .record) (now (cells .exit)) (now (out .exit)) ≡ rule.acted slotCount (rule.state state (now (cells .entry)) (now (out .entry))) key total number (now (part .entry)) (stepAt (now (cells .entry)) total number (now (part .entry)) i (slotAt (state .slots) i)) ⌝ }
+    ensures { λ r. ⌜ after (toldAnswer (r .answer)) (r .record) (now (cells .exit)) (now (out .exit)) ≡ rule.acted slotCount (rule.state state (now (cells .entry)) (now (out .entry))) (keyOf paged) total number (now (part .entry)) (stepAt (now (cells .entry)) total number (now (part .entry)) i (slotAt (state .slots) i)) ⌝ }
 {
-    let x = order::slot_at(state, i);
+    let x = find::slot_at(state, i);
     let step = decide(x, i, total, number, cells, part);
     match step {
         Step::Refuses(why) => return refused(state, why),
         Step::Repeats => return repeated(state, i, x),
         Step::Keeps => return keep(state, i, false, x, number, part, cells),
-        Step::Finishes => return finish(state, i, key.width == 0, number, cells, part, out),
+        Step::Finishes => return finish(state, i, paged, number, cells, part, out),
     }
 }
 
@@ -214,7 +213,9 @@ fn take_part(
 {
     let k = number as usize;
     match find::find_key(state, key) {
-        Found::At(i) => return take_more(state, i, key, total, k, part, cells, out),
+        Found::At(i) => {
+            return take_more(state, i, key.width == 0, total, k, part, cells, out);
+        }
         Found::Nothing => {
             let o = find::new_place(state);
             let x = find::opened(key, total);
@@ -230,7 +231,7 @@ fn take_single(state: Record, paged: bool, part: &[u8], out: &mut [u8]) -> Taken
     ensures { λ _. ⌜ now (out .exit) ≡ outputWith (packetIn (state .kind) paged 1 (now (part .entry))) (now (out .entry)) ⌝ }
 {
     let kind = state.kind;
-    let size = packets::hand_out_single(kind, paged, part, out);
+    let size = joined::hand_out(kind, paged, part, out);
     Taken {
         answer: handed(size),
         record: state,

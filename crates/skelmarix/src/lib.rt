@@ -2,11 +2,12 @@
 // calls that only these crates make of one another stay with them.
 
 // Octets: numbers as pairs, a total put, the comparison.
-pub use octets::Pair;
 pub use octets::number_of;
 pub use octets::pair_of;
 pub use octets::put;
 pub use octets::same;
+pub use octets::up_to;
+pub use types::Pair;
 
 // Packets: reading, showing, building, the octets of a checksum.
 pub use build::build_ciphered_command;
@@ -15,58 +16,53 @@ pub use build::build_command;
 pub use build::build_response;
 pub use checksum::command_checksum;
 pub use checksum::response_checksum;
-pub use packet::Clear;
-pub use packet::Cntr;
-pub use packet::Command;
-pub use packet::CommandBody;
-pub use packet::Kind;
-pub use packet::Opaque;
-pub use packet::ParsedCommand;
-pub use packet::ParsedResponse;
-pub use packet::PlainCommand;
-pub use packet::PlainResponse;
-pub use packet::Refusal;
-pub use packet::Response;
-pub use packet::ResponseBody;
-pub use packet::Spi;
-pub use packet::Tar;
-pub use packet::Written;
 pub use packet::read::formed;
 pub use packet::read::parse_command;
 pub use packet::read::parse_response;
 pub use packet::read::well_formed;
-pub use show::command_check;
-pub use show::command_data;
-pub use show::command_opaque;
-pub use show::response_check;
-pub use show::response_data;
-pub use show::response_opaque;
+pub use packet::show::command_check;
+pub use packet::show::command_data;
+pub use packet::show::command_opaque;
+pub use packet::show::response_check;
+pub use packet::show::response_data;
+pub use packet::show::response_opaque;
+pub use types::Clear;
+pub use types::Cntr;
+pub use types::Command;
+pub use types::CommandBody;
+pub use types::Kind;
+pub use types::Opaque;
+pub use types::ParsedCommand;
+pub use types::ParsedResponse;
+pub use types::PlainCommand;
+pub use types::PlainResponse;
+pub use types::Refusal;
+pub use types::Response;
+pub use types::ResponseBody;
+pub use types::Spi;
+pub use types::Tar;
+pub use types::Written;
 
 // Arrivals: what one message or page brings.
-pub use arrival::Arrival;
-pub use arrival::Key;
-pub use arrival::MessageIdentifier;
-pub use arrival::SerialNumber;
 pub use arrival::message::read_message;
 pub use arrival::own_octets;
 pub use arrival::page::read_page;
-pub use header::Concatenation;
-pub use header::Cursor;
-pub use header::Element;
-pub use header::Seen;
-pub use header::Walked;
+pub use types::Arrival;
+pub use types::Key;
+pub use types::MessageIdentifier;
+pub use types::SerialNumber;
 
 // Series: the record, and taking what arrives.
 pub use formed::record_formed;
-pub use series::Answer;
-pub use series::Taken;
 pub use series::take::take_message;
 pub use series::take::take_page;
-pub use slots::Record;
-pub use slots::Slot;
 pub use slots::find::fresh;
+pub use types::Answer;
+pub use types::Record;
+pub use types::Slot;
+pub use types::Taken;
 
 // Splitting: one part a call.
-pub use split::WrittenPart;
 pub use split::write_message;
 pub use split::write_page;
+pub use types::WrittenPart;

@@ -8,12 +8,14 @@ use native.Mathlib.Omega.{arith}
 use lib.ListN.{length, replicate}
 use lib.Dec.{eqb}
 use borrow.Author.Needs.{needs}
+use borrow.Author.Tests.{eq-eqb, ne-eqb, lt-ltb, le-ltb}
+use Rattle.arrival.specs.Message.{mostParts}
 use borrow.Author.Count.{below-more}
-use Rattle.arrival.specs.declared.Key.{Key}
-use Rattle.packet.specs.declared.Kind.{Kind}
-use Rattle.slots.specs.declared.Slot.{Slot}
-use Rattle.slots.specs.Slots.{slotAt, sameKey, bears, isFree, find, isLeastRecent, leastRecent, freeSlot, freshRecord}
-use Rattle.slots.specs.Found.{toldFound, newPlace, found-inside, length-of-map}
+use Rattle.types.specs.declared.Key.{Key}
+use Rattle.types.specs.declared.Kind.{Kind}
+use Rattle.types.specs.declared.Slot.{Slot}
+use Rattle.slots.specs.Slots.{slotAt, withPart, sameKey, bears, isFree, find, isLeastRecent, leastRecent, freeSlot, freshRecord}
+use Rattle.slots.specs.Found.{toldFound, newPlace, found-inside, length-of-map, slotIn, slot-in, withPartIn}
 use Rattle.slots.specs.declared.find.Found.{Found}
 use Rattle.slots.specs.declared.find.Found.the-variants.{At, Nothing}
 use Rattle.slots.proofs.FindLaws.{Passed, find-at, find-none}
@@ -57,6 +59,24 @@ bears-told key x b e = rw e
 pub fresh-told : (n : ℕ) (k : Kind) (x : Slot) → x ≡ freeSlot → record { kind = k; slots = replicate n x } ≡ freshRecord n k
 fresh-told n k x e = rw e
 
+-- ---- a slot of the record, and a slot with a part
+module _ (n : ℕ) (xs : List Slot) (i : ℕ) where
+  pub slot-there : i < n → slotAt xs i ≡ slotIn n xs i
+  slot-there l = sym (slot-in n xs i l)
+
+  pub slot-none : (x : Slot) → n ≤ i → x ≡ freeSlot → x ≡ slotIn n xs i
+  slot-none x l e = rw (le-ltb i n l) e
+
+module _ (x : Slot) (number n : ℕ) where
+  pub part-zero : number ≡ 0 → x ≡ withPartIn x number n
+  part-zero e = rw (eq-eqb number 0 e)
+
+  pub part-past : mostParts < number → x ≡ withPartIn x number n
+  part-past l = rw (ne-eqb number 0 (λ e. omega arith), lt-ltb mostParts number l)
+
+  pub part-there : (number ≡ 0 → ⊥) → number ≤ mostParts → withPart x number n ≡ withPartIn x number n
+  part-there z l = rw (ne-eqb number 0 z, le-ltb mostParts number l)
+
 pub ruleset findSteps = (
   needs,
   length-of-map,
@@ -71,4 +91,9 @@ pub ruleset findSteps = (
   found-inside,
   bears-told,
   fresh-told,
+  slot-there,
+  slot-none,
+  part-zero,
+  part-past,
+  part-there,
 )

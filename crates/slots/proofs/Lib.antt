@@ -1,2 +1,4 @@
 pub mod FindLaws
 pub mod FindSteps
+pub mod OrderLaws
+pub mod OrderSteps

@@ -1,19 +1,19 @@
 -- What coming to the front and freeing do to each slot, and what a search tells.
-use Prim.Native.Nat.{ℕ, zero, suc, _≤_, _<_}
+use Prim.Native.Nat.{ℕ, zero, suc, _<_}
 use mathlib.Core.Path.{_≡_, refl, sym, ap, _∙_}
-use mathlib.Core.Bool.{Bool, true, false, not, cond, _&&_}
+use mathlib.Core.Bool.{Bool, true, false, cond, _&&_}
 use mathlib.Core.List.{List, [], _∷_, map}
 use mathlib.Core.Option.{Option, none, some}
 use native.Mathlib.Omega.{arith}
 use native.Mathlib.Nat.{le-of-suc-le-suc}
-use lib.ListN.{length, getD, set, length-map, length-set, List·getD-map}
+use lib.ListN.{length, getD, length-map, length-set, List·getD-map}
 use lib.Seq.{getD-set-same, getD-set-other}
 use lib.Dec.{eqb}
 use borrow.Author.Tests.{eqb-true, eq-eqb}
-use Rattle.octets.specs.Tests.{both, clash}
-use Rattle.arrival.specs.declared.Key.{Key}
-use Rattle.slots.specs.declared.Slot.{Slot}
-use Rattle.slots.specs.Slots.{noKey, slotAt, freeSlot, sameKey, atRank, aged, closed, agedSlot, closedSlot, toFront, freed, later, find}
+use Rattle.octets.specs.Tests.{both}
+use Rattle.types.specs.declared.Key.{Key}
+use Rattle.types.specs.declared.Slot.{Slot}
+use Rattle.slots.specs.Slots.{noKey, slotAt, freeSlot, sameKey, atRank, aged, agedSlot, closedSlot, toFront, freed, later, find}
 use Rattle.slots.specs.RankLaws.{closed-near}
 
 -- the slot that stands past the end of a list

@@ -4,3 +4,4 @@ pub mod Slots
 pub mod RankLaws
 pub mod FrontLaws
 pub mod Found
+pub mod Order

@@ -1,14 +1,14 @@
 -- Ranks: where each of 1 to m is a rank and m slots are used, no rank is above m and no two used slots have the same; and coming to the front
 -- and freeing keep it so. Said of a rank for each place, whatever the slots hold besides.
 use Prim.Native.Nat.{ℕ, zero, suc, pred, _+_, _-_, _≤_, _<_}
-use mathlib.Core.Path.{_≡_, refl, sym, ap, _∙_, subst}
-use mathlib.Core.Bool.{Bool, true, false, not, cond, _&&_, _||_}
+use mathlib.Core.Path.{_≡_, refl, sym, ap, _∙_}
+use mathlib.Core.Bool.{Bool, true, false, not, cond, _||_}
 use native.Mathlib.Omega.{arith}
 use lib.Dec.{eqb, leb, ltb}
-use borrow.Author.Tests.{eq-eqb, ne-eqb, eqb-true, eqb-false, ltb-true, ltb-false, lt-ltb, le-ltb, le-leb, leb-true, leb-false}
-use Rattle.octets.specs.Tests.{clash, both, both-hold, Same, same, other, same?}
+use borrow.Author.Tests.{eq-eqb, ne-eqb, eqb-true, ltb-true, ltb-false, lt-ltb, le-ltb, leb-true, leb-false}
+use Rattle.octets.specs.Tests.{clash, Same, same, other, same?}
 use Rattle.slots.specs.Below.{allBelow, anyBelow, countBelow}
-use Rattle.slots.specs.BelowLaws.{all-at, all-hold, any-hold, any-at, count-same, count-one, count-mono, count-less, count-full}
+use Rattle.slots.specs.BelowLaws.{all-at, all-hold, any-hold, any-at, count-same, count-one, count-less, count-full}
 use Rattle.slots.specs.Slots.{aged, closed}
 
 -- ---- the ranks of n places

@@ -1,17 +1,17 @@
-// The slots of a record: a fresh one, which is free, and which bears a key (01, "Series"). Each search goes over the slots by index, so another
-// number of slots is another `SLOTS`.
-use crate::PARTS;
-use crate::Record;
-use crate::SLOTS;
-use crate::Slot;
-use arrival::Key;
-use arrival::MessageIdentifier;
-use arrival::SerialNumber;
-use packet::Kind;
+// The slots of a record: a fresh one, one by its number, which is free, and which bears a key (01, "Series"). Each search goes over the slots
+// by index, so another number of slots is another `SLOTS`.
+use types::Key;
+use types::Kind;
+use types::MessageIdentifier;
+use types::PARTS;
+use types::Record;
+use types::SLOTS;
+use types::SerialNumber;
+use types::Slot;
 ghost use mathlib.Core.Path.{_≡_};
 ghost use Prim.Native.Nat.{_<_};
 ghost use Rattle.slots.specs.Slots.{slotCount, opened, freeSlot, sameKey, bears, isFree, find, isLeastRecent, leastRecent, freshRecord};
-ghost use Rattle.slots.specs.Found.{toldFound, Inside, newPlace};
+ghost use Rattle.slots.specs.Found.{toldFound, Inside, newPlace, slotIn, withPartIn};
 
 // Which slot a search found.
 pub enum Found {
@@ -62,6 +62,33 @@ pub fn fresh(kind: Kind) -> Record
         kind: kind,
         slots: slots,
     }
+}
+
+// Slot i; where there is none, a free one.
+pub fn slot_at(state: Record, i: usize) -> Slot
+    ensures { λ r. ⌜ r ≡ slotIn slotCount (state .slots) i ⌝ }
+{
+    if SLOTS <= i {
+        return free_slot();
+    }
+    state.slots[i]
+}
+
+// The slot with part `number`, of n octets; where no part has that number, the slot as it is.
+pub fn with_part(x: Slot, number: usize, n: u8) -> Slot
+    ensures { λ r. ⌜ r ≡ withPartIn x number n ⌝ }
+{
+    if number == 0 {
+        return x;
+    }
+    if PARTS < number {
+        return x;
+    }
+    let mut y = x;
+    let i = number - 1;
+    y.lengths[i] = n;
+    y.held[i] = true;
+    y
 }
 
 // Whether two keys are one: every field counts, so 8-bit 2A and 16-bit 002A are two series.

@@ -1,27 +1,13 @@
 -- Laws that the proofs about the number of parts and the room in them cite: one for each return or need, over plain variables.
 use Prim.Native.Nat.{ℕ, _+_, _-_, _/_, _≤_, _<_}
-use mathlib.Core.Path.{_≡_, sym}
+use mathlib.Core.Path.{_≡_}
 use native.Mathlib.Omega.{arith}
-use native.Mathlib.Nat.{div-le-self, sub-zero}
+use native.Mathlib.Nat.{div-le-self}
 use mir.Syntax.{w64}
 use mir.Val.{Fits}
-use borrow.Author.Tests.{le-leb, lt-leb, eq-eqb, ne-eqb}
+use borrow.Author.Tests.{le-leb, lt-leb}
 use Rattle.arrival.specs.Keys.{room}
 use Rattle.split.specs.Splitting.{parts}
-use Rattle.split.specs.Within.{laterRoom}
-
-pub later-wide : (width : ℕ) → width ≡ 16 → 133 ≡ laterRoom width
-later-wide width e = rw (eq-eqb width 16 e)
-
-pub later-narrow : (width : ℕ) → (width ≡ 16 → ⊥) → 134 ≡ laterRoom width
-later-narrow width n = rw (ne-eqb width 16 n)
-
-module _ (width number r : ℕ) (e : r ≡ laterRoom width) where
-  pub room-first : number ≡ 1 → r - 2 ≡ room width number
-  room-first o = rw (e, eq-eqb number 1 o)
-
-  pub room-later : (number ≡ 1 → ⊥) → r ≡ room width number
-  room-later n = rw (e, ne-eqb number 1 n) (sym (sub-zero (laterRoom width)))
 
 pub parts-one : (width size : ℕ) → size ≤ 137 → 1 ≡ parts width size
 parts-one width size l = rw (le-leb size 137 l)

@@ -12,7 +12,7 @@ use borrow.Author.Fill.{fill-more}
 use borrow.Author.Tests.{eq-eqb, ne-eqb}
 use Rattle.octets.specs.Octets.{placed, afterPut}
 use Rattle.octets.specs.Laws.{put-fits, length-placed, placed-start, placed-next}
-use Rattle.packet.specs.declared.Kind.{Kind}
+use Rattle.types.specs.declared.Kind.{Kind}
 use Rattle.arrival.specs.Keys.{room}
 use Rattle.split.specs.Splitting.{partFrom, partOctets, headerOf, userData}
 use Rattle.split.specs.Laws.{part-whole, part-cut, part-begins, user-data-fits}

@@ -11,10 +11,10 @@ use lib.Dec.{eqb, ltb}
 use mir.Syntax.{w8, w16}
 use mir.Val.{Fits}
 use borrow.Author.Tests.{ltb-true, eq-eqb, ne-eqb}
-use Rattle.octets.specs.declared.Pair.{Pair}
+use Rattle.types.specs.declared.Pair.{Pair}
 use Rattle.octets.specs.Octets.{pairOf, afterPut}
 use Rattle.octets.specs.Laws.{put-fits}
-use Rattle.packet.specs.declared.Kind.{Kind}
+use Rattle.types.specs.declared.Kind.{Kind}
 use Rattle.arrival.specs.Keys.{referenceFits}
 use Rattle.split.specs.Splitting.{identifierElement, headerOf}
 use Rattle.split.specs.Laws.{identifier-length}

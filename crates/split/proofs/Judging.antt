@@ -1,17 +1,17 @@
 -- Laws that the proofs about refusals cite: each return of `due`, and what a public call makes of the answer.
 use Prim.Native.Nat.{ℕ, _≤_, _<_}
 use mathlib.Core.Path.{_≡_, refl}
-use mathlib.Core.Bool.{Bool, true, false, not, _||_}
+use mathlib.Core.Bool.{Bool, true, false, not}
 use mathlib.Core.List.{List, []}
 use native.Mathlib.Omega.{arith}
 use lib.ListN.{length}
 use lib.Dec.{eqb, ltb}
 use borrow.Author.Tests.{not-true, not-false, ltb-false, eqb-true, eqb-false, lt-ltb, le-ltb, eq-eqb, ne-eqb}
 use Rattle.octets.specs.Tests.{neither}
-use Rattle.packet.specs.declared.Kind.{Kind}
-use Rattle.packet.specs.declared.Kind.the-variants.{Command}
-use Rattle.packet.specs.declared.Refusal.{Refusal}
-use Rattle.packet.specs.Refusals.{Outcome, refused, gives, refuse_when_otherwise_, numberOf}
+use Rattle.types.specs.declared.Kind.{Kind}
+use Rattle.types.specs.declared.Kind.the-variants.{Command}
+use Rattle.types.specs.declared.Refusal.{Refusal}
+use Rattle.types.specs.Refusals.{Outcome, refused, gives, refuse_when_otherwise_, numberOf}
 use Rattle.packet.specs.Packets.{wellFormed}
 use Rattle.packet.specs.Laws.{formed-facts}
 use Rattle.arrival.specs.Message.{mostUserData}

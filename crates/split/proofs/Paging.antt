@@ -5,7 +5,7 @@ use mathlib.Core.List.{List, [], _∷_, _++_, append-nil}
 use native.Mathlib.Omega.{arith}
 use lib.ListN.{length, take, drop, replicate, length-append, length-take, length-drop, drop-of-length-le}
 use lib.Seq.{take-at}
-use Rattle.octets.specs.declared.Pair.{Pair}
+use Rattle.types.specs.declared.Pair.{Pair}
 use Rattle.octets.specs.Octets.{pairOf, afterPut}
 use Rattle.split.specs.Splitting.{contentOf, parameter, page}
 use Rattle.split.specs.Laws.{page-length}

@@ -1,6 +1,6 @@
 -- What the proofs of `split` cite: the laws of the files beside this one, one for each return, call or need.
 use borrow.Author.Needs.{needs}
-use Rattle.split.proofs.Counting.{later-wide, later-narrow, room-first, room-later, parts-one, parts-fit, parts-more}
+use Rattle.split.proofs.Counting.{parts-one, parts-fit, parts-more}
 use Rattle.split.proofs.Judging.{refused-buffer, refused-reference, refused-unformed, refused-long, refused-number, judged-total, refused-page-buffer, refused-identifier, refused-unformed-page, refused-long-page, refused-page-number, judged-pages, message-refused, message-written, page-refused, page-written, message-ready, page-ready}
 use Rattle.split.proofs.Headers.{udhl-first, udhl-later, prefix-count, single-put, narrow-put, wide-put, wide-fits, narrow-fits, single-header-put, wide-header-put, narrow-header-put}
 use Rattle.split.proofs.Cutting.{from-one, product-fits, from-fits, from-later, cut-rest, cut-full, whole-octets, cut-octets, clear-more, clear-all, fill-stands, ready-begins, user-data-fit, user-data-stands}
@@ -8,10 +8,6 @@ use Rattle.split.proofs.Paging.{page-head-put, own-short, page-stands}
 
 pub ruleset steps = (
   needs,
-  later-wide,
-  later-narrow,
-  room-first,
-  room-later,
   parts-one,
   parts-fit,
   parts-more,

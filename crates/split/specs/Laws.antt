@@ -2,7 +2,7 @@
 -- both kinds.
 use Prim.Native.Nat.{ℕ, zero, suc, _+_, _-_, _*_, _≤_, _<_}
 use mathlib.Core.Path.{_≡_, refl, sym, _∙_}
-use mathlib.Core.Bool.{Bool, true, false}
+use mathlib.Core.Bool.{true}
 use mathlib.Core.List.{List, [], _∷_, _++_}
 use native.Mathlib.Omega.{arith}
 use native.Mathlib.Nat.{suc-sub-suc, sub-zero, mul-le-mul-right}
@@ -12,10 +12,10 @@ use lib.Dec.{eqb, leb}
 use borrow.Author.Tests.{leb-true, leb-false, le-leb, lt-leb, le-ltb, eq-eqb, ne-eqb}
 use Rattle.octets.specs.Joined.{joined, joined-cut}
 use Rattle.octets.specs.Tests.{by-test}
-use Rattle.packet.specs.declared.Kind.{Kind}
-use Rattle.packet.specs.declared.Kind.the-variants.{Command, Response}
+use Rattle.types.specs.declared.Kind.{Kind}
+use Rattle.types.specs.declared.Kind.the-variants.{Command, Response}
 use Rattle.arrival.specs.Message.{mostUserData, mostParts}
-use Rattle.packet.specs.Refusals.{gives}
+use Rattle.types.specs.Refusals.{gives}
 use Rattle.packet.specs.Packets.{wellFormed}
 use Rattle.arrival.specs.Page.{pageOctets, pageContent, identifierInRange}
 use Rattle.arrival.specs.Keys.{room, referenceFits}

@@ -1,6 +1,6 @@
 -- What splitting writes, reading understands (01, "Splitting" against "User data header" and "Pages"): each part is read as that part of its
 -- series, with its own octets behind the header. Said once for both kinds and both widths.
-use Prim.Native.Nat.{ℕ, suc, _+_, _/_, _%_, _≤_}
+use Prim.Native.Nat.{ℕ, suc, _/_, _%_, _≤_}
 use mathlib.Core.Path.{_≡_, refl, sym, ap, _∙_}
 use mathlib.Core.Bool.{Bool, true, false, not, cond, _&&_}
 use mathlib.Core.Logic.{_⊎_, inl, inr}
@@ -13,9 +13,9 @@ use lib.Dec.{eqb}
 use borrow.Author.Tests.{eqb-true, le-ltb, lt-leb, eq-eqb, ne-eqb}
 use Rattle.octets.specs.Octets.{pairOf}
 use Rattle.octets.specs.Laws.{number-of-pair}
-use Rattle.packet.specs.declared.Kind.{Kind}
-use Rattle.packet.specs.declared.Kind.the-variants.{Command, Response}
-use Rattle.packet.specs.Refusals.{Outcome, gives}
+use Rattle.types.specs.declared.Kind.{Kind}
+use Rattle.types.specs.declared.Kind.the-variants.{Command, Response}
+use Rattle.types.specs.Refusals.{Outcome, gives}
 use Rattle.header.specs.declared.Concatenation.{Concatenation}
 use Rattle.header.specs.declared.Seen.{Seen}
 use Rattle.arrival.specs.Arrivals.{Brought, single, part}

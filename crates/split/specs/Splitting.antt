@@ -1,18 +1,18 @@
 -- Splitting (01, "Splitting", "Pages"). A width is its concatenation element and its room; packet kind and width are parameters of one rule.
-use Prim.Native.Nat.{ℕ, suc, _+_, _-_, _*_, _/_}
-use mathlib.Core.Bool.{Bool, true, false, not, cond, _&&_, _||_}
+use Prim.Native.Nat.{ℕ, _+_, _-_, _*_, _/_}
+use mathlib.Core.Bool.{Bool, not, cond, _||_}
 use mathlib.Core.List.{List, [], _∷_, _++_}
 use lib.ListN.{length, take, drop, replicate}
 use lib.Dec.{eqb, ltb, leb}
 use Rattle.octets.specs.Octets.{pairOf}
-use Rattle.packet.specs.declared.Kind.{Kind}
-use Rattle.packet.specs.declared.Kind.the-variants.{Command, Response}
-use Rattle.packet.specs.Refusals.{Outcome, refused, gives, refuse_when_otherwise_, numberOf}
-use Rattle.packet.specs.Packets.{wellFormed, mostOctets}
+use Rattle.types.specs.declared.Kind.{Kind}
+use Rattle.types.specs.declared.Kind.the-variants.{Command, Response}
+use Rattle.types.specs.Refusals.{Outcome, refused, gives, refuse_when_otherwise_, numberOf}
+use Rattle.packet.specs.Packets.{wellFormed}
 use Rattle.arrival.specs.Message.{mostUserData, mostParts}
 use Rattle.arrival.specs.Page.{pageOctets, pageContent, identifierInRange}
 use Rattle.arrival.specs.Keys.{room, referenceFits}
-use Rattle.split.specs.declared.WrittenPart as declared
+use Rattle.types.specs.declared.WrittenPart as declared
 
 -- ---- what writing a part comes to
 -- the number of parts, and the octets written

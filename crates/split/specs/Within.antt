@@ -1,14 +1,14 @@
 -- What only the functions of this crate cite of one another.
 use Prim.Native.Nat.{ℕ, _≤_}
 use mathlib.Core.Path.{_≡_}
-use mathlib.Core.Bool.{true, not, cond}
+use mathlib.Core.Bool.{true, not}
 use mathlib.Core.List.{List, [], _∷_, _++_}
 use lib.ListN.{length, drop}
 use lib.Dec.{eqb, ltb}
 use Rattle.octets.specs.Octets.{pairOf, placed}
-use Rattle.packet.specs.declared.Kind.{Kind}
-use Rattle.packet.specs.declared.Kind.the-variants.{Command}
-use Rattle.packet.specs.Refusals.{Outcome, refused, gives, refuse_when_otherwise_, numberOf}
+use Rattle.types.specs.declared.Kind.{Kind}
+use Rattle.types.specs.declared.Kind.the-variants.{Command}
+use Rattle.types.specs.Refusals.{Outcome, refused, gives, refuse_when_otherwise_, numberOf}
 use Rattle.packet.specs.Packets.{wellFormed}
 use Rattle.arrival.specs.Message.{mostUserData}
 use Rattle.arrival.specs.Page.{pageOctets, identifierInRange}
@@ -16,10 +16,6 @@ use Rattle.arrival.specs.Keys.{referenceFits}
 use Rattle.split.specs.declared.Due.{Due}
 use Rattle.split.specs.declared.Due.the-variants as due
 use Rattle.split.specs.Splitting.{parts, mostSplit, pages, mostPages, noSuchPart}
-
--- the room of every part but the first
-abbrev pub laterRoom : ℕ → ℕ
-laterRoom width = cond (eqb width 16) 133 134
 
 -- what the answer to "is this part due" says: the number of parts, or the refusal
 abbrev pub toldDue : Due → Outcome ℕ

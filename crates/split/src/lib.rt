@@ -3,18 +3,13 @@ mod message;
 mod page;
 mod part;
 
-use arrival::MessageIdentifier;
-use arrival::SerialNumber;
-use packet::Kind;
-use packet::Refusal;
+use types::Kind;
+use types::MessageIdentifier;
+use types::Refusal;
+use types::SerialNumber;
+use types::WrittenPart;
 ghost use mathlib.Core.Path.{_≡_};
 ghost use Rattle.split.specs.Splitting.{told, written, writeMessage, writePage};
-
-// What writing one part answers: how many parts the packet has, and how many octets stand at the buffer's start.
-pub enum WrittenPart {
-    Part { total: usize, length: usize },
-    Refused(Refusal),
-}
 
 // What is due to a call that asks for a part: how many parts there are, where the part is to be written, or why it is not.
 pub(crate) enum Due {

@@ -1,51 +1,31 @@
 // Writing user data: which parts a packet has, the header of each, and its octets (01, "Splitting").
 use crate::Due;
 use crate::part;
-use packet::Kind;
-use packet::Refusal;
+use arrival::keys::reference_fits;
+use arrival::keys::room;
+use types::Kind;
+use types::PARTS;
+use types::Refusal;
+use types::USER_DATA_OCTETS;
 ghost use mathlib.Core.Path.{_≡_};
 ghost use mathlib.Core.Bool.{cond};
 ghost use mathlib.Core.List.{[], _∷_};
-ghost use Prim.Native.Nat.{_+_, _-_, _*_, _≤_, _<_};
+ghost use Prim.Native.Nat.{_+_, _≤_};
 ghost use lib.ListN.{length};
 ghost use lib.Dec.{eqb};
-ghost use Rattle.arrival.specs.Keys.{room, referenceFits};
 ghost use Rattle.split.specs.Splitting.{parts, partFrom, partOctets, identifierElement, headerOf, userData, mostSplit};
-ghost use Rattle.split.specs.Within.{HeaderPut, Numbered, Ready, Standing, laterRoom, toldDue, judging};
+ghost use Rattle.split.specs.Within.{HeaderPut, Numbered, Ready, Standing, toldDue, judging};
+
+// The most octets that go in one message: what the three of its header leave.
+const MOST_SINGLE: usize = USER_DATA_OCTETS - 3;
 
 // ---- how many parts
-// Whether a width is 8 or 16 and the reference fits it.
-fn reference_fits(width: u32, reference: u32) -> bool
-    ensures { λ r. ⌜ r ≡ referenceFits width reference ⌝ }
-{
-    ((width == 8) & (reference < 256)) | ((width == 16) & (reference < 65536))
-}
-
-// How many octets a part behind the first has room for.
-fn later_room(width: u32) -> usize
-    ensures { λ r. ⌜ r ≡ laterRoom width ⌝ }
-    ensures { λ r. ⌜ (133 ≤ r) × (r ≤ 134) ⌝ }
-{
-    if width == 16 { 133 } else { 134 }
-}
-
-// How many octets part `number` has room for: what its header leaves of the 140.
-fn room(width: u32, number: u32) -> usize
-    ensures { λ r. ⌜ r ≡ room width number ⌝ }
-    ensures { λ r. ⌜ (131 ≤ r) × (r ≤ 134) ⌝ }
-{
-    if number == 1 {
-        return later_room(width) - 2;
-    }
-    later_room(width)
-}
-
 // How many octets sixteen parts hold.
 fn most_split(width: u32) -> usize
     ensures { λ r. ⌜ r ≡ mostSplit width ⌝ }
     ensures { λ r. ⌜ r ≤ 2142 ⌝ }
 {
-    room(width, 1) + 15 * room(width, 2)
+    room(width, 1) + (PARTS - 1) * room(width, 2)
 }
 
 // How many parts a packet of `size` octets has.
@@ -53,7 +33,7 @@ fn parts(width: u32, size: usize) -> usize
     requires { ⌜ size ≤ 2142 ⌝ }
     ensures { λ r. ⌜ r ≡ parts width size ⌝ }
 {
-    if size <= 137 {
+    if size <= MOST_SINGLE {
         return 1;
     }
     let first = room(width, 1);
@@ -72,7 +52,7 @@ pub(crate) fn due(
 ) -> Due
     ensures { λ r. ⌜ toldDue r ≡ judging kind width reference (now (packet .entry)) number size ⌝ }
 {
-    if size != 140 {
+    if size != USER_DATA_OCTETS {
         return Due::Refused(Refusal::BufferOrRecord);
     }
     if !reference_fits(width, reference) {
@@ -189,11 +169,11 @@ fn part_of(width: u32, number: u32, packet: &[u8]) -> &[u8]
     requires { ⌜ (1 ≤ number) × (number ≤ 16) × (partFrom width number ≤ length (now packet)) ⌝ }
     ensures { λ r. ⌜ now r ≡ partOctets width (now (packet .entry)) number ⌝ }
 {
-    if packet.len() <= 137 {
+    if packet.len() <= MOST_SINGLE {
         return packet;
     }
     let from = part_from(width, number);
-    part::cut(packet, from, room(width, number))
+    part::cut(packet, from, room(width, number as usize))
 }
 
 // Writes the user data of part `number` of `total`, and says how long it is.

@@ -1,37 +1,35 @@
 // Writing a page: how many pages a packet has, the header of each, and its content (01, "Pages", "Splitting").
 use crate::Due;
 use crate::part;
-use arrival::MessageIdentifier;
-use arrival::SerialNumber;
-use packet::Kind;
-use packet::Refusal;
+use arrival::keys::in_range;
+use types::Kind;
+use types::MessageIdentifier;
+use types::PAGE_CONTENT;
+use types::PAGE_OCTETS;
+use types::Refusal;
+use types::SerialNumber;
 ghost use mathlib.Core.Path.{_≡_};
 ghost use Prim.Native.Nat.{_-_, _*_, _≤_};
 ghost use lib.ListN.{length, take, drop};
-ghost use Rattle.arrival.specs.Page.{identifierInRange};
 ghost use Rattle.split.specs.Splitting.{pages, parameter, page};
 ghost use Rattle.split.specs.Within.{HeaderPut, PageReady, Standing, toldDue, judgingPage, pageHead};
 
-// Whether a message identifier is one of those set aside for secured packets.
-fn in_range(identifier: MessageIdentifier) -> bool
-    ensures { λ r. ⌜ r ≡ identifierInRange (identifier .0) ⌝ }
-{
-    (0x1080 <= identifier.0) & (identifier.0 <= 0x109F)
-}
+// The most octets that go in pages: the total has four bits of the page parameter.
+const MOST_PAGES: usize = 15 * PAGE_CONTENT;
 
 // How many pages a packet of `size` octets has.
 fn pages(size: usize) -> usize
     requires { ⌜ size ≤ 1230 ⌝ }
     ensures { λ r. ⌜ r ≡ pages size ⌝ }
 {
-    (size + 82 - 1) / 82
+    (size + PAGE_CONTENT - 1) / PAGE_CONTENT
 }
 
 // Every refusal of a call, in 01's order: 1, 5, 9, 12, 14. Nothing is written before it is known that there is none.
 pub(crate) fn due(identifier: MessageIdentifier, number: u32, packet: &[u8], size: usize) -> Due
     ensures { λ r. ⌜ toldDue r ≡ judgingPage (identifier .0) (now (packet .entry)) number size ⌝ }
 {
-    if size != 88 {
+    if size != PAGE_OCTETS {
         return Due::Refused(Refusal::BufferOrRecord);
     }
     if !in_range(identifier) {
@@ -40,7 +38,7 @@ pub(crate) fn due(identifier: MessageIdentifier, number: u32, packet: &[u8], siz
     if !packet::read::well_formed(Kind::Command, packet) {
         return Due::Refused(Refusal::NotWellFormed);
     }
-    if 1230 < packet.len() {
+    if MOST_PAGES < packet.len() {
         return Due::Refused(Refusal::PacketLength);
     }
     let total = pages(packet.len());
@@ -81,8 +79,8 @@ fn own_octets(number: u32, packet: &[u8]) -> &[u8]
     ensures { λ r. ⌜ now r ≡ take 82 (drop (82 * (number - 1)) (now (packet .entry))) ⌝ }
     ensures { λ r. ⌜ length (now r) ≤ 82 ⌝ }
 {
-    let from = 82 * (number - 1) as usize;
-    part::cut(packet, from, 82)
+    let from = PAGE_CONTENT * (number - 1) as usize;
+    part::cut(packet, from, PAGE_CONTENT)
 }
 
 // Writes page `number` of `total`, with 00 where the packet does not reach, and says how long a page is.
@@ -102,5 +100,5 @@ pub(crate) fn write(
     let own = own_octets(number, packet);
     octets::put(own, out, 6);
     part::fill(out, 6 + own.len());
-    88
+    PAGE_OCTETS
 }

@@ -1,7 +1,7 @@
 -- `walk` meets its contract: the elements from a place on are the one that stands there and those behind it, and what was seen takes the
 -- one in before the others. The octets left of the header fall, since an element takes two at least. Assumes nothing.
 use Rattle.header.proofs.Steps.{steps}
-use Prim.Native.Nat.{ℕ, _<_, _-_}
+use Prim.Native.Nat.{ℕ, _-_, _<_}
 use lib.ListN.{length}
 use borrow.Fn.Kinds.{In}
 use borrow.Fn.PlainCycle.{Measures, is, falls, and}

@@ -18,6 +18,9 @@ is-alone-requires c κs = search steps
 returns-3 : tie.Need-returns-3
 returns-3 c = search steps
 
+cast-if4 : tie.Need-cast-if4
+cast-if4 c = search steps
+
 returns-4 : tie.Need-returns-4
 returns-4 c = search steps
 
@@ -36,6 +39,7 @@ judge-spec =
     returns-2
     is-alone-requires
     returns-3
+    cast-if4
     returns-4
     key-of-requires
     returns-5)

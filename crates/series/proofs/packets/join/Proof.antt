@@ -5,7 +5,7 @@ use mathlib.Core.Path.{_≡_}
 use lib.ListN.{length}
 use Rattle.series.specs.Handing.{pieceOf}
 use Rattle.series.proofs.CellLaws.{Written}
-use Rattle.series.proofs.CellSteps.{cellSteps}
+use Rattle.series.proofs.CellSteps.{joinSteps}
 use Rattle.series.proofs.packets.join.Statement.{statement}
 use Rattle.series.proofs.packets.join.Tie as tie
 
@@ -17,28 +17,28 @@ abbrev μ-loop : tie.MeasureT-loop
 μ-loop cells lengths total s number part limit out₀ at₀ k₀ out at k = total - k
 
 loop-holds : tie.Need-loop-holds Inv-loop μ-loop
-loop-holds c = search cellSteps
+loop-holds c = search joinSteps
 
 add-k : tie.Need-add-k Inv-loop μ-loop
-add-k c = search cellSteps
+add-k c = search joinSteps
 
 piece-requires : tie.Need-piece-requires Inv-loop μ-loop
-piece-requires c κs = search cellSteps
+piece-requires c κs = search joinSteps
 
 put-up-to-requires : tie.Need-put-up-to-requires Inv-loop μ-loop
-put-up-to-requires c κs = search cellSteps
+put-up-to-requires c κs = search joinSteps
 
 loop-less : tie.Need-loop-less Inv-loop μ-loop
-loop-less c = search cellSteps
+loop-less c = search joinSteps
 
 loop-again : tie.Need-loop-again Inv-loop μ-loop
-loop-again c = search cellSteps
+loop-again c = search joinSteps
 
 same-length : tie.Need-same-length Inv-loop μ-loop
-same-length c = search cellSteps
+same-length c = search joinSteps
 
 returns : tie.Need-returns Inv-loop μ-loop
-returns c = search cellSteps
+returns c = search joinSteps
 
 pub join-spec : {M : Type 1} → statement M
 join-spec =

@@ -6,7 +6,7 @@ use native.Mathlib.Omega.{arith}
 use Rattle.joined.specs.Fronts.{frontOf}
 use Rattle.series.specs.Cells.{joined}
 use Rattle.series.specs.Handing.{pieceOf}
-use Rattle.series.proofs.CellSteps.{cellSteps}
+use Rattle.series.proofs.CellSteps.{frontSteps}
 use Rattle.series.proofs.packets.joined_front.Statement.{statement}
 use Rattle.series.proofs.packets.joined_front.Tie as tie
 
@@ -18,28 +18,28 @@ abbrev μ-loop : tie.MeasureT-loop
 μ-loop cells lengths total s number part f₀ k₀ f k = total - k
 
 no-front-requires : tie.Need-no-front-requires Inv-loop μ-loop
-no-front-requires c κs = search cellSteps
+no-front-requires c κs = search frontSteps
 
 loop-holds : tie.Need-loop-holds Inv-loop μ-loop
-loop-holds c = search cellSteps
+loop-holds c = search frontSteps
 
 add-k : tie.Need-add-k Inv-loop μ-loop
-add-k c = search cellSteps
+add-k c = search frontSteps
 
 piece-requires : tie.Need-piece-requires Inv-loop μ-loop
-piece-requires c κs = search cellSteps
+piece-requires c κs = search frontSteps
 
 extended-requires : tie.Need-extended-requires Inv-loop μ-loop
-extended-requires c κs = search cellSteps
+extended-requires c κs = search frontSteps
 
 loop-less : tie.Need-loop-less Inv-loop μ-loop
-loop-less c = search cellSteps
+loop-less c = search frontSteps
 
 loop-again : tie.Need-loop-again Inv-loop μ-loop
-loop-again c = (omega arith, search cellSteps)
+loop-again c = (omega arith, search frontSteps)
 
 returns : tie.Need-returns Inv-loop μ-loop
-returns c = search cellSteps
+returns c = search frontSteps
 
 pub joined-front-spec : {M : Type 1} → statement M
 joined-front-spec =

@@ -1,5 +1,5 @@
--- `keep` meets its contract: the part has room in its cell and the ranks are low, so `store` and `to_front` apply; what comes to the front is the
--- slot with the part. Assumes nothing.
+-- `keep` meets its contract: the part has room in its cell, so `store` applies; there is a slot i and a part of that number and the ranks are
+-- low, so what comes to the front is the rule's slot with the part. Assumes nothing.
 use Rattle.series.proofs.TakeSteps.{actSteps}
 use Rattle.series.proofs.take.keep.Statement.{statement}
 use Rattle.series.proofs.take.keep.Tie as tie

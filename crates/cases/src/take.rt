@@ -1,0 +1,109 @@
+// Messages and pages taken one after the other, from a fresh record.
+use crate::answers;
+use crate::answers::Expected;
+use crate::answers::NONE;
+use skelmarix::Answer;
+use skelmarix::Kind;
+use skelmarix::Record;
+use skelmarix::Taken;
+use skelmarix::fresh;
+use skelmarix::own_octets;
+use skelmarix::put;
+use skelmarix::take_message;
+use skelmarix::take_page;
+use skelmarix::up_to;
+
+// Who sends the messages.
+const SENDER: u32 = 7;
+
+// Takes a message, or a page.
+fn take(paged: bool, state: Record, octets: &[u8], cells: &mut [u8], out: &mut [u8]) -> Taken {
+    if paged {
+        return take_page(state, octets, cells, out);
+    }
+    take_message(state, SENDER, octets, cells, out)
+}
+
+// The octets of the call that begins at `at`: those of a page, or 7 of a message; of the last call all that there are.
+fn call(paged: bool, octets: &[u8], at: usize, last: usize) -> &[u8] {
+    let rest = own_octets(octets, at);
+    if at == last {
+        return rest;
+    }
+    up_to(rest, if paged { 88 } else { 7 })
+}
+
+// Takes calls that lie one behind the other, up to that which begins at `last`.
+fn each(
+    paged: bool,
+    start: Taken,
+    octets: &[u8],
+    last: u8,
+    cells: &mut [u8],
+    out: &mut [u8],
+) -> Taken {
+    let mut taken = start;
+    let mut at = 0;
+    while at <= last as usize {
+        let octets = call(paged, octets, at, last as usize);
+        taken = take(paged, taken.record, octets, cells, out);
+        at = if paged { at + 88 } else { at + 7 };
+    }
+    taken
+}
+
+// Before the first call.
+fn start() -> Taken {
+    Taken {
+        answer: Answer::Packet { length: 0 },
+        record: fresh(Kind::Command),
+    }
+}
+
+// The number of an example of calls that lie one behind the other, on a fresh record, with buffers that hold anything but zeros.
+fn example(paged: bool, octets: &[u8], last: u8, expected: Expected) -> u8 {
+    let mut cells = [answers::BEFORE; 6432];
+    let mut out = [answers::BEFORE; 2142];
+    let taken = each(paged, start(), octets, last, &mut cells, &mut out);
+    answers::after(taken, &out, expected)
+}
+
+// One message.
+pub fn message(ud: &[u8], expected: Expected) -> u8 {
+    example(false, ud, 0, expected)
+}
+
+// One page with serial number 0000, identifier 1080, DCS 96 and this page parameter: M, then 00s.
+pub fn page(parameter: u8, expected: Expected) -> u8 {
+    let mut page = [0x00; 88];
+    put(&[0x00, 0x00, 0x10, 0x80, 0x96, parameter], &mut page, 0);
+    put(&answers::M, &mut page, 6);
+    example(true, &page, 0, expected)
+}
+
+// Two pages whose packet would fit in one. The first is kept; with the second the series is complete, refused and freed.
+pub fn too_short() -> u8 {
+    let mut pages = [0x00; 176];
+    put(b"\x00\x00\x10\x80\x96\x12\x00\x50\x0D", &mut pages, 0);
+    put(b"\x00\x00\x10\x80\x96\x22", &mut pages, 88);
+    let kept = answers::among(0, false, 0, NONE, NONE);
+    let first = example(true, up_to(&pages, 88), 0, kept);
+    answers::held_to(first == 0, example(true, &pages, 88, Expected::Ended))
+}
+
+// Part 2 of 2 arrives of the series A, B, C and these two, up to that whose octets begin at `last`.
+fn series(fourth: u8, fifth: u8, last: u8, expected: Expected) -> u8 {
+    let mut uds =
+        *b"\x05\x00\x03\x0A\x02\x02.\x05\x00\x03\x0B\x02\x02.\x05\x00\x03\x0C\x02\x02.\x05\x00\x03?\x02\x02.\x05\x00\x03?\x02\x02.";
+    uds[24] = fourth;
+    uds[31] = fifth;
+    example(false, up_to(&uds, last as usize + 7), last, expected)
+}
+
+// A, B, C, then D displaces A; A, B, C, A again, then D displaces B.
+pub fn displaced() -> u8 {
+    let three = series(0, 0, 14, answers::among(2, false, 0xA, 0xB, 0xC));
+    let first = series(0xD, 0, 21, answers::among(0, true, 0xD, 0xB, 0xC));
+    let second = series(0xA, 0xD, 28, answers::among(1, true, 0xA, 0xD, 0xC));
+    answers::held_to((three == 0) & (first == 0), second)
+}

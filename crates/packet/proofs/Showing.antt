@@ -1,0 +1,116 @@
+-- What the proofs of showing cite: one law for each return, over plain variables.
+use Prim.Native.Nat.{ℕ, _+_, _-_, _≤_}
+use mathlib.Core.Path.{_≡_, refl, sym, ap, _∙_}
+use mathlib.Core.Bool.{Bool, true, false, not}
+use mathlib.Core.List.{List, []}
+use native.Mathlib.Omega.{arith}
+use lib.ListN.{length, take, drop, length-drop}
+use lib.Seq.{drop-drop, take-all}
+use lib.Dec.{ltb}
+use borrow.Author.Needs.{needs}
+use borrow.Author.Tests.{not-true, not-false}
+use Rattle.types.specs.declared.Kind.{Kind}
+use Rattle.types.specs.declared.Refusal.{Refusal}
+use Rattle.packet.specs.declared.read.Judged.{Judged}
+use Rattle.packet.specs.declared.read.Judged.the-variants as judged
+use Rattle.types.specs.Refusals.{gives, refuse_when_otherwise_}
+use Rattle.packet.specs.Packets.{before, least, chl, wellFormed, readable, shown, shownData, shownCheck, shownOpaque}
+use Rattle.packet.specs.Laws.{Formed, before-least}
+use Rattle.packet.specs.Judging.{toldJudged, judged-formed, judged-header, judged-readable, judged-refused}
+
+-- nothing is shown of nothing, whether the packet can be read or not
+nothing : (k : Kind) (p : List ℕ) → [] ≡ shown (readable k p (gives []))
+nothing k p = go (wellFormed k p) (ltb 2142 (length p))
+  where
+    go : (w l : Bool) → [] ≡ shown (refuse 9 when not w otherwise refuse 12 when l otherwise gives [])
+    go true true = refl
+    go true false = refl
+    go false l = refl
+
+module _ (k : Kind) (c : Bool) (p : List ℕ) where
+  pub no-data : c ≡ true → [] ≡ shownData k c p
+  unfolding shownData
+  no-data t = rw t (nothing k p)
+
+  pub no-check : c ≡ true → [] ≡ shownCheck k c p
+  unfolding shownCheck
+  no-check t = rw t (nothing k p)
+
+  pub no-opaque : not c ≡ true → [] ≡ shownOpaque k c p
+  unfolding shownOpaque
+  no-opaque t = rw (not-true c t) (nothing k p)
+
+  module _ (j : Judged) (e : toldJudged j ≡ readable k p (gives (chl p))) where
+    module _ (r : Refusal) (t : j ≡ judged.Refused r) where
+      pub data-refused : [] ≡ shownData k c p
+      unfolding shownData
+      data-refused = rw (← judged-refused k p j e r t)
+
+      pub check-refused : [] ≡ shownCheck k c p
+      unfolding shownCheck
+      check-refused = rw (← judged-refused k p j e r t)
+
+      pub opaque-refused : [] ≡ shownOpaque k c p
+      unfolding shownOpaque
+      opaque-refused = rw (← judged-refused k p j e r t)
+
+    module _ (h : ℕ) (t : j ≡ judged.Readable h) where
+      inside : Formed k p
+      inside = judged-formed k p j e h t
+
+      is : h ≡ chl p
+      is = judged-header k p j e h t
+
+      the-part : (x o : List ℕ) → x ≡ o → x ≡ shown (readable k p (gives o))
+      the-part x o f = f ∙ ap shown (judged-readable k p j e h t (gives o))
+
+      pub header-inside : h + 3 ≤ length p
+      header-inside = let w : Formed k p = inside in omega (arith, is)
+
+      pub data-part : (x : List ℕ) → c ≡ false → x ≡ drop h (drop 3 p) → x ≡ shownData k c p
+      unfolding shownData
+      data-part x s g = rw s (the-part x (drop (chl p) (drop 3 p)) (rw (sym is) g))
+
+      module _ (l : ℕ) (f : l ≡ least k) where
+        pub least-header : l ≤ h
+        least-header = let w : Formed k p = inside in omega (arith, is)
+
+        pub check-part : (x : List ℕ) → c ≡ false → x ≡ take (h - l) (drop l (drop 3 p)) → x ≡ shownCheck k c p
+        unfolding shownCheck
+        check-part x s g = rw s (the-part x (take (chl p - least k) (drop (least k) (drop 3 p))) (rw (← is, ← f) g))
+
+      module _ (b : ℕ) (f : b ≡ before k) where
+        pub before-inside : b + 3 ≤ length p
+        before-inside = let w : Formed k p = inside in omega (arith, is, before-least k)
+
+        pub opaque-part : (x : List ℕ) → not c ≡ false → x ≡ drop b (drop 3 p) → x ≡ shownOpaque k c p
+        unfolding shownOpaque
+        opaque-part x s g = rw (not-false c s) (the-part x (drop (before k) (drop 3 p)) (rw (sym f) g))
+
+-- what a packet shows behind its lengths, as slices count it
+pub tail-part : (p : List ℕ) (n : ℕ) → take (length p - (n + 3)) (drop (n + 3) p) ≡ drop n (drop 3 p)
+tail-part p n =
+    let f : n + 3 ≡ 3 + n = omega arith in rw (drop-drop, f) (take-all (length p - (3 + n)) (drop (3 + n) p) (simp length-drop (omega arith)))
+
+pub inner-part : (p : List ℕ) (a b : ℕ) → take (b + 3 - (a + 3)) (drop (a + 3) p) ≡ take (b - a) (drop a (drop 3 p))
+inner-part p a b =
+    let e : b + 3 - (a + 3) ≡ b - a = omega arith in
+    let f : a + 3 ≡ 3 + a = omega arith in rw (drop-drop, e, f)
+
+pub ruleset steps = (
+  needs,
+  no-data,
+  no-check,
+  no-opaque,
+  data-refused,
+  check-refused,
+  opaque-refused,
+  header-inside,
+  data-part,
+  least-header,
+  check-part,
+  before-inside,
+  opaque-part,
+  tail-part,
+  inner-part,
+)

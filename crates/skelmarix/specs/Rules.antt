@@ -1,0 +1,4 @@
+-- The rules that a user's contract cites, under one name, and nothing of its own: a record, a fresh one, and what taking comes to.
+pub use Rattle.slots.specs.Slots.{slotCount, slotAt, freshRecord, withSlots}
+pub use Rattle.series.specs.Taking.{State, state, Answer, After, after, toldAnswer}
+unfoldable pub use Rattle.series.specs.Taking.{takeMessage, takePage}

@@ -1,0 +1,110 @@
+-- What the proofs over the order of recency cite: one law for each return and turn of a loop, over plain variables.
+use Prim.Native.Nat.{ℕ, suc, _+_, _-_, _≤_, _<_}
+use mathlib.Core.Path.{_≡_, refl, _∙_}
+use mathlib.Core.Bool.{Bool, true, false, not, cond, _&&_, _||_}
+use native.Mathlib.Omega.{arith}
+use native.Mathlib.Numerals.{add-one, sub-one}
+use lib.ListN.{length, set, length-set}
+use lib.Dec.{eqb, ltb}
+use mir.Syntax.{w8}
+use mir.Val.{Fits}
+use borrow.Author.Needs.{needs}
+use borrow.Author.Tests.{ltb-true, lt-ltb, le-ltb}
+use Rattle.octets.specs.Tests.{both}
+use Rattle.types.specs.declared.Slot.{Slot}
+use Rattle.types.specs.declared.Record.{Record}
+use Rattle.slots.specs.Slots.{slotAt, atRank, aged, closed, freeSlot, withSlots}
+use Rattle.slots.specs.Found.{length-of-map}
+use Rattle.slots.specs.Order.{rankAfter, replaced, frontIn, freedIn}
+use Rattle.slots.proofs.OrderLaws.{Changed, firstRanked, first-next, first-more, first-all}
+
+-- ---- ranks
+module _ (front : Bool) (r q : ℕ) where
+  pub rank-up : (front && ltb q 255 && (not (eqb q 0) && (eqb r 0 || ltb q r))) ≡ true → q + 1 ≡ rankAfter front r q
+  unfolding aged
+  rank-up e = go front e
+    where
+      go : (b : Bool) → (b && ltb q 255 && (not (eqb q 0) && (eqb r 0 || ltb q r))) ≡ true → q + 1 ≡ rankAfter b r q
+      go true h = let (l, m) = both (ltb q 255) (not (eqb q 0) && (eqb r 0 || ltb q r)) h in rw (l, m, add-one)
+      go false h = let z : _≡_ {A = ℕ} 0 1 = cc in absurd (omega arith)
+
+  pub rank-low : (front && ltb q 255 && (not (eqb q 0) && (eqb r 0 || ltb q r))) ≡ true → Fits w8 (q + 1)
+  rank-low e =
+      omega (arith, ltb-true q 255 (both front (ltb q 255) (both (front && ltb q 255) (not (eqb q 0) && (eqb r 0 || ltb q r)) e .0) .1))
+
+  pub rank-down : (not front && ltb r q) ≡ true → q - 1 ≡ rankAfter front r q
+  unfolding closed
+  rank-down e = go front e
+    where
+      go : (b : Bool) → (not b && ltb r q) ≡ true → q - 1 ≡ rankAfter b r q
+      go true h = let z : _≡_ {A = ℕ} 0 1 = cc in absurd (omega arith)
+      go false h = rw (h, sub-one)
+
+  pub rank-some : (not front && ltb r q) ≡ true → 1 ≤ q
+  rank-some e = omega (arith, ltb-true r q (both (not front) (ltb r q) e .1))
+
+  pub rank-kept : (front && ltb q 255 && (not (eqb q 0) && (eqb r 0 || ltb q r))) ≡ false → (not front && ltb r q) ≡ false
+      → q ≡ rankAfter front r q
+  unfolding aged closed
+  rank-kept e f = go front e f
+    where
+      here : (b c : Bool) → (b && c) ≡ false → q ≡ cond b (cond c (suc q) q) q
+      here true true h = let z : _≡_ {A = ℕ} 0 1 = cc in absurd (omega arith)
+      here true false h = refl
+      here false c h = refl
+
+      go : (b : Bool) → (b && ltb q 255 && (not (eqb q 0) && (eqb r 0 || ltb q r))) ≡ false → (not b && ltb r q) ≡ false → q ≡ rankAfter b r q
+      go true h k = here (ltb q 255) (not (eqb q 0) && (eqb r 0 || ltb q r)) h
+      go false h k = rw k
+
+-- ---- a loop that changes the ranks
+module _ (g : ℕ → ℕ) (n : ℕ) (r : Record) where
+  pub change-starts : length (r .slots) ≡ n → Changed g n r r 0
+  unfolding firstRanked
+  change-starts e = record { before = e; after = e; within = omega arith; kind = refl; slots = refl }
+
+  module _ (s : Record) (j : ℕ) (done : Changed g n r s j) where
+    next : slotAt (s .slots) j ≡ slotAt (r .slots) j
+    next = rw (done .slots) (first-next g j (r .slots))
+
+    pub change-goes-on : (q : ℕ) → j < n → q ≡ g (slotAt (s .slots) j .rank)
+        → Changed g n r (withSlots s (set (s .slots) j (atRank q (slotAt (s .slots) j)))) (j + 1)
+    change-goes-on q l e = record {
+      before = done .before;
+      after = length-set (s .slots) j (atRank q (slotAt (s .slots) j)) ∙ done .after;
+      within = omega arith;
+      kind = done .kind;
+      slots = rw (e, next, done .slots, add-one) (first-more g j (r .slots));
+    }
+
+pub change-ends : (n i : ℕ) (front : Bool) (r s : Record) (j : ℕ) (x : Slot) → Changed (rankAfter front (slotAt (r .slots) i .rank)) n r s j
+    → n ≤ j → i < n → withSlots s (set (s .slots) i x) ≡ replaced n front r i x
+change-ends n i front r s j x done l inside =
+    rw (lt-ltb i n inside, done .kind, done .slots, first-all (rankAfter front (slotAt (r .slots) i .rank)) j (r .slots) (omega (arith, done .before)))
+
+pub none-changed : (n i : ℕ) (front : Bool) (r : Record) (x : Slot) → n ≤ i → r ≡ replaced n front r i x
+none-changed n i front r x l = rw (le-ltb i n l)
+
+-- ---- the two changes
+module _ (n : ℕ) (r s : Record) (i : ℕ) (y : Slot) where
+  pub comes-front : (x : Slot) → s ≡ replaced n true r i y → y ≡ atRank 1 x → s ≡ frontIn n r i x
+  comes-front x h e = rw e at h
+
+  pub comes-free : s ≡ replaced n false r i y → y ≡ freeSlot → s ≡ freedIn n r i
+  comes-free h e = rw e at h
+
+pub ruleset orderSteps = (
+  needs,
+  length-of-map,
+  rank-up,
+  rank-low,
+  rank-down,
+  rank-some,
+  rank-kept,
+  change-starts,
+  change-goes-on,
+  change-ends,
+  none-changed,
+  comes-front,
+  comes-free,
+)

@@ -1,0 +1,66 @@
+// The order of recency (01, "Series"): a slot comes to the front, or is freed, and the others keep their order. The loop goes over the slots
+// by index.
+use crate::find::free_slot;
+use types::Record;
+use types::SLOTS;
+use types::Slot;
+ghost use mathlib.Core.Path.{_≡_};
+ghost use Rattle.slots.specs.Slots.{slotCount, atRank};
+ghost use Rattle.slots.specs.Order.{rankAfter, replaced, frontIn, freedIn};
+
+// The slot at another rank.
+fn at_rank(x: Slot, r: u8) -> Slot
+    ensures { λ y. ⌜ y ≡ atRank r x ⌝ }
+{
+    let mut y = x;
+    y.rank = r;
+    y
+}
+
+// Rank q after a slot of rank r has come to the front, or was freed. No rank is counted past 255.
+fn rank_after(front: bool, r: u8, q: u8) -> u8
+    ensures { λ p. ⌜ p ≡ rankAfter front r q ⌝ }
+{
+    if front & (q < 255) & ((q != 0) & ((r == 0) | (q < r))) {
+        return q + 1;
+    }
+    if !front & (r < q) {
+        return q - 1;
+    }
+    q
+}
+
+// The record with x in slot i, and the other slots at the ranks that they have once slot i has come to the front, or was freed. Where there
+// is no slot i, the record as it is.
+fn replaced(mut state: Record, i: usize, front: bool, x: Slot) -> Record
+    ensures { λ r. ⌜ r ≡ replaced slotCount front state i x ⌝ }
+{
+    if SLOTS <= i {
+        return state;
+    }
+    let old = state.slots[i];
+    let r = old.rank;
+    let mut j = 0;
+    while j < SLOTS {
+        let mut y = state.slots[j];
+        y.rank = rank_after(front, r, y.rank);
+        state.slots[j] = y;
+        j = j + 1;
+    }
+    state.slots[i] = x;
+    state
+}
+
+// The record with slot i in front, as x; what was more recent is one less so.
+pub fn to_front(state: Record, i: usize, x: Slot) -> Record
+    ensures { λ r. ⌜ r ≡ frontIn slotCount state i x ⌝ }
+{
+    replaced(state, i, true, at_rank(x, 1))
+}
+
+// The record with slot i free; the other slots keep their order, without a gap.
+pub fn freed(state: Record, i: usize) -> Record
+    ensures { λ r. ⌜ r ≡ freedIn slotCount state i ⌝ }
+{
+    replaced(state, i, false, free_slot())
+}

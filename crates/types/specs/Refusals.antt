@@ -1,0 +1,55 @@
+-- Refusals, by number (01, "Numbers of refusal").
+use Prim.Native.Nat.{ℕ}
+use mathlib.Core.Bool.{Bool, true, false}
+use mathlib.Core.List.{List, _++_}
+use lib.ListN.{length, drop}
+use Rattle.types.specs.declared.Refusal.{Refusal}
+use Rattle.types.specs.declared.Refusal.the-variants.{BufferOrRecord, Size, Header, Element, Identifier, Total, OtherTotal, OtherOctets, NotWellFormed, Cipher, HeaderLength, PacketLength, Reference, Number}
+use Rattle.types.specs.declared.Written.{Written}
+use Rattle.types.specs.declared.Written.the-variants.{Octets, Refused}
+
+-- the number that the table of 01 gives to each
+abbrev pub numberOf : Refusal → ℕ
+numberOf BufferOrRecord = 1
+numberOf Size = 2
+numberOf Header = 3
+numberOf Element = 4
+numberOf Identifier = 5
+numberOf Total = 6
+numberOf OtherTotal = 7
+numberOf OtherOctets = 8
+numberOf NotWellFormed = 9
+numberOf Cipher = 10
+numberOf HeaderLength = 11
+numberOf PacketLength = 12
+numberOf Reference = 13
+numberOf Number = 14
+
+-- what a call comes to: a refusal by its number, or what it gives
+pub data Outcome (A : Type 0) : Type 0 where
+  refused : ℕ → Outcome A
+  gives : A → Outcome A
+
+-- "Each is given exactly on its condition, tested in the order stated."
+module _ {A : Type 0} where
+  infixr 10 refuse_when_otherwise_
+  abbrev pub refuse_when_otherwise_ : ℕ → Bool → Outcome A → Outcome A
+  refuse n when true otherwise o = refused n
+  refuse n when false otherwise o = o
+
+-- Writing to a lent buffer: the answer, and the buffer afterwards. A refusal alters nothing; otherwise the octets stand at the buffer's
+-- start, the answer is their length, and "the rest of the buffer is unchanged".
+abbrev pub Lent : Type 0
+Lent = Outcome ℕ × List ℕ
+
+abbrev pub lent : Outcome ℕ → List ℕ → Lent
+lent answer buffer = (answer, buffer)
+
+abbrev pub writes : Outcome (List ℕ) → List ℕ → Lent
+writes (refused n) buffer = (refused n, buffer)
+writes (gives octets) buffer = (gives (length octets), octets ++ drop (length octets) buffer)
+
+-- what the enum of an answer says
+abbrev pub toldWritten : Written → Outcome ℕ
+toldWritten (Octets n) = gives n
+toldWritten (Refused r) = refused (numberOf r)
