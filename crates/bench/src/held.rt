@@ -9,7 +9,11 @@ use answers::say;
 use answers::series;
 use lines::RIGHT;
 use types::Kind;
+use types::MOST_OCTETS;
+use types::PART_OCTETS;
+use types::PARTS;
 use types::Record;
+use types::SLOTS;
 use words::fixed_at;
 use words::is_end;
 use words::is_name;
@@ -24,9 +28,8 @@ ghost use Rattle.bench.specs.Lines as rule;
 ghost use Rattle.bench.specs.Lines.{Does, Keeps, held, done, lends, kindBy, wantedOf, lentOf, withRecord, withLent, asks, message, messageAsked, pageAsked, freshAsked, fillAsked, lendNamed, lendAsked, numberAsked};
 ghost use Rattle.lines.specs.Lines.{Untouched};
 
-const CELLS: usize = 6432;
-
-const OUTPUT: usize = 2142;
+// How many octets the cells have.
+const CELLS: usize = SLOTS * PARTS * PART_OCTETS;
 
 // ---- small steps
 // How many octets are to be lent: n, or the right number.
@@ -92,7 +95,7 @@ fn take_message(
 {
     let sizes = b.lent;
     let n = lent(sizes.cells, CELLS, cells.len());
-    let m = lent(sizes.output, OUTPUT, output.len());
+    let m = lent(sizes.output, MOST_OCTETS, output.len());
     let record = b.record;
     let taken = skelmarix::take_message(record, sender, ud, &mut cells[0..n], &mut output[0..m]);
     let answer = taken.answer;
@@ -137,7 +140,7 @@ fn take_page(
 {
     let sizes = b.lent;
     let n = lent(sizes.cells, CELLS, cells.len());
-    let m = lent(sizes.output, OUTPUT, output.len());
+    let m = lent(sizes.output, MOST_OCTETS, output.len());
     let record = b.record;
     let taken = skelmarix::take_page(record, page, &mut cells[0..n], &mut output[0..m]);
     let answer = taken.answer;

@@ -43,3 +43,8 @@ pub(crate) fn lent(buffer: &mut [u8], n: usize, right: usize) -> &mut [u8] {
     }
     &mut buffer[0..wanted]
 }
+
+// The octet at a place; the fields of a line that is understood reach so far.
+pub(crate) fn octet(fields: &[u8], i: usize) -> u8 {
+    if i < fields.len() { fields[i] } else { 0 }
+}

@@ -6,6 +6,7 @@ use crate::args::in_row;
 use crate::args::packet;
 use crate::lent;
 use crate::not_understood;
+use crate::octet;
 use crate::understood;
 use answers::packets;
 use answers::written;
@@ -13,6 +14,7 @@ use skelmarix::own_octets;
 use skelmarix::up_to;
 use types::Clear;
 use types::Cntr;
+use types::MOST_OCTETS;
 use types::Spi;
 use types::Tar;
 use types::Written;
@@ -22,9 +24,8 @@ ghost use mathlib.Core.Path.{_≡_};
 ghost use mathlib.Core.Bool.{true, false};
 ghost use Rattle.lines.specs.Lines.{Untouched};
 
-const BUILT: usize = 2142;
-
-const SUMMED: usize = 2145;
+// A checksum covers a packet and the three octets before a response.
+const SUMMED: usize = MOST_OCTETS + 3;
 
 // ---- reading
 fn say_command(packet: &[u8], text: &mut [u8], at: usize) -> usize {
@@ -150,32 +151,27 @@ pub fn checksum_line(
 }
 
 // ---- building
-// The octet at a place; the fields of a line that is understood reach so far.
-fn at(fields: &[u8], i: usize) -> u8 {
-    if i < fields.len() { fields[i] } else { 0 }
-}
-
 fn tar_at(fields: &[u8], i: usize) -> Tar {
     let rest = own_octets(fields, i);
-    Tar(at(rest, 0), at(rest, 1), at(rest, 2))
+    Tar(octet(rest, 0), octet(rest, 1), octet(rest, 2))
 }
 
 fn cntr_at(fields: &[u8], i: usize) -> Cntr {
     let rest = own_octets(fields, i);
     Cntr(
-        at(rest, 0),
-        at(rest, 1),
-        at(rest, 2),
-        at(rest, 3),
-        at(rest, 4),
+        octet(rest, 0),
+        octet(rest, 1),
+        octet(rest, 2),
+        octet(rest, 3),
+        octet(rest, 4),
     )
 }
 
 fn clear_of(fields: &[u8]) -> Clear {
     Clear {
-        spi: Spi(at(fields, 0), at(fields, 1)),
-        kic: at(fields, 2),
-        kid: at(fields, 3),
+        spi: Spi(octet(fields, 0), octet(fields, 1)),
+        kic: octet(fields, 2),
+        kid: octet(fields, 3),
         tar: tar_at(fields, 4),
     }
 }
@@ -187,7 +183,7 @@ fn plain_command(fields: &[u8], last: usize, out: &mut [u8]) -> Written {
     skelmarix::build_command(
         clear_of(fields),
         cntr_at(fields, 7),
-        at(fields, 12),
+        octet(fields, 12),
         check,
         data,
         out,
@@ -202,8 +198,8 @@ fn plain_response(fields: &[u8], last: usize, out: &mut [u8]) -> Written {
     skelmarix::build_response(
         tar,
         cntr_at(fields, 3),
-        at(fields, 8),
-        at(fields, 9),
+        octet(fields, 8),
+        octet(fields, 9),
         check,
         data,
         out,
@@ -270,7 +266,7 @@ fn built(line: &[u8], size: usize, work: &mut [u8], buffer: &mut [u8]) -> Outcom
     if !a.understood {
         return not_made();
     }
-    made(build(a, up_to(work, a.end), lent(buffer, size, BUILT)))
+    made(build(a, up_to(work, a.end), lent(buffer, size, MOST_OCTETS)))
 }
 
 // `build command plain SPI KIC KID TAR CNTR PCNTR CHECK DATA`, `build command ciphered SPI KIC KID TAR HEADERLENGTH OPAQUE`,

@@ -5,6 +5,7 @@ use crate::args::by;
 use crate::args::in_row;
 use crate::lent;
 use crate::not_understood;
+use crate::octet;
 use crate::understood;
 use answers::series;
 use skelmarix::number_of;
@@ -13,7 +14,9 @@ use skelmarix::up_to;
 use types::Arrival;
 use types::Kind;
 use types::MessageIdentifier;
+use types::PAGE_OCTETS;
 use types::SerialNumber;
+use types::USER_DATA_OCTETS;
 use types::WrittenPart;
 use words::is_name;
 use words::word;
@@ -21,11 +24,7 @@ ghost use mathlib.Core.Path.{_≡_};
 ghost use mathlib.Core.Bool.{true, false};
 ghost use Rattle.lines.specs.Lines.{Untouched};
 
-const USER_DATA: usize = 140;
-
-const PAGE: usize = 88;
-
-// `k` of a pattern as a kind.
+// The argument of sort `k` as a kind.
 fn kind_of(second: u32) -> Kind {
     if second == 1 {
         Kind::Response
@@ -34,15 +33,10 @@ fn kind_of(second: u32) -> Kind {
     }
 }
 
-// The octet at a place; the fields of a line that is understood reach so far.
-fn at(fields: &[u8], i: usize) -> u8 {
-    if i < fields.len() { fields[i] } else { 0 }
-}
-
 // The 16-bit number at a place.
 fn pair_at(fields: &[u8], i: usize) -> u16 {
     let rest = own_octets(fields, i);
-    number_of(at(rest, 0), at(rest, 1))
+    number_of(octet(rest, 0), octet(rest, 1))
 }
 
 // ---- reading
@@ -86,7 +80,7 @@ fn write_page(a: Args, fields: &[u8], out: &mut [u8]) -> WrittenPart {
     let serial = SerialNumber(pair_at(fields, 0));
     let identifier = MessageIdentifier(pair_at(fields, 2));
     let packet = own_octets(fields, a.last);
-    skelmarix::write_page(serial, identifier, at(fields, 4), a.third, packet, out)
+    skelmarix::write_page(serial, identifier, octet(fields, 4), a.third, packet, out)
 }
 
 // What a line that writes a part comes to.
@@ -128,9 +122,9 @@ fn write_args(line: &[u8], room: &mut [u8]) -> Args {
 
 fn write(a: Args, fields: &[u8], size: usize, buffer: &mut [u8]) -> WrittenPart {
     if a.row == 2 {
-        return write_page(a, fields, lent(buffer, size, PAGE));
+        return write_page(a, fields, lent(buffer, size, PAGE_OCTETS));
     }
-    write_message(a, fields, lent(buffer, size, USER_DATA))
+    write_message(a, fields, lent(buffer, size, USER_DATA_OCTETS))
 }
 
 fn written(line: &[u8], size: usize, work: &mut [u8], buffer: &mut [u8]) -> Outcome

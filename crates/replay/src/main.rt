@@ -93,7 +93,7 @@ fn next(s: Session) -> Session {
     t
 }
 
-// A line with which something is the matter: a comment has no answer, whatever it is.
+// A line with which something is the matter is counted, and its answer says what.
 fn trouble(s: Session, what: &[u8], text: &mut [u8], at: usize) -> Session {
     let mut t = s;
     t.wrong = std::num::wrapping_add_u64(s.wrong, 1);
@@ -101,7 +101,7 @@ fn trouble(s: Session, what: &[u8], text: &mut [u8], at: usize) -> Session {
     t
 }
 
-// Passes a line that is too long.
+// Passes a line that is too long. A comment has no answer, however long it is.
 fn pass(line: &[u8], s: Session, text: &mut [u8], at: usize) -> Session {
     if table::is_silent(words::word(line, 0)) {
         return s;
@@ -289,7 +289,7 @@ fn read(fd: i32, piece: &mut [u8]) -> Got {
     }
 }
 
-// Reads a piece of input, answers its lines and writes the answers; false of `more` at the input's end.
+// What a turn of reading leaves, and whether there is more to read.
 struct After {
     session: Session,
     more: bool,
