@@ -1,19 +1,34 @@
-// Answers as text: pieces put one behind the other into a lent buffer, and what the library answered in such pieces. What is printed is held
-// to stored lines; a piece that does not fit is left out, so that every call is safe for any buffer.
-pub mod packets;
-pub mod series;
+// Answers as text. An answer is a row of numbers: its name, and what is to be printed behind it, each by its sort; there is one writer. What
+// is printed is held to stored lines; a piece that does not fit is left out, so that every call is safe for any buffer.
+pub mod record;
+pub mod rows;
 
-use skelmarix::put;
-use types::Refusal;
-use types::Written;
 ghost use Prim.Native.Nat.{_<_};
 
+// A name is a number, its letters are digits to the base 32: `a` is 1. The sorts have four bits each, the first lowest: 1 to 5 so many octets as
+// digits, 6 a decimal number, 7 a name; 8 to 10 a number and so many octets of the first, second, third buffer; 12 to 14 a part of it, from
+// v / 65536 on so many octets as v % 65536.
+pub struct Row {
+    pub name: u64,
+    pub sorts: u64,
+    pub values: [u64; 8],
+}
+
+// ---- pieces
 // Puts a piece at a place and says where the text then ends.
 pub fn say(piece: &[u8], text: &mut [u8], at: usize) -> usize {
-    if put(piece, text, at) {
-        return at + piece.len();
+    if text.len() < at {
+        return at;
     }
-    at
+    if text.len() - at < piece.len() {
+        return at;
+    }
+    at + bytes::copy(piece, &mut text[at..])
+}
+
+// The end of a line.
+pub fn end(text: &mut [u8], at: usize) -> usize {
+    say(b"\n", text, at)
 }
 
 // The digit of a value below 16, a capital from 10 on.
@@ -44,12 +59,31 @@ fn pairs(octets: &[u8], text: &mut [u8], at: usize) -> usize {
 }
 
 // A blank and octets, `-` for none.
-pub fn field(octets: &[u8], text: &mut [u8], at: usize) -> usize {
+fn field(octets: &[u8], text: &mut [u8], at: usize) -> usize {
     let at = say(b" ", text, at);
     if octets.len() == 0 {
         return say(b"-", text, at);
     }
     pairs(octets, text, at)
+}
+
+// Octet i of a number, counted from the low end.
+fn octet(n: u64, scale: u64) -> u8
+    requires { ⌜ 0 < scale ⌝ }
+{
+    (n / scale % 256) as u8
+}
+
+// A blank and the last octets of a number, up to five.
+fn hex(n: u64, count: usize, text: &mut [u8], at: usize) -> usize {
+    let octets = [
+        octet(n, 4294967296),
+        octet(n, 16777216),
+        octet(n, 65536),
+        octet(n, 256),
+        octet(n, 1),
+    ];
+    field(part(&octets, 5 - count % 6, 5), text, at)
 }
 
 // A number in decimal, with as few digits as hold it.
@@ -60,46 +94,97 @@ pub fn number(n: u64, text: &mut [u8], at: usize) -> usize {
 }
 
 // A blank and a number.
-pub fn count(n: usize, text: &mut [u8], at: usize) -> usize {
+fn count(n: u64, text: &mut [u8], at: usize) -> usize {
     let at = say(b" ", text, at);
-    number(n as u64, text, at)
+    number(n, text, at)
 }
 
-// The end of a line.
-pub fn end(text: &mut [u8], at: usize) -> usize {
-    say(b"\n", text, at)
-}
-
-// A number n, the first n octets, and the end of the line.
-pub fn counted(n: usize, octets: &[u8], text: &mut [u8], at: usize) -> usize {
-    let at = count(n, text, at);
-    let at = field(skelmarix::up_to(octets, n), text, at);
-    end(text, at)
-}
-
-// `refused N`.
-pub fn refusal(why: Refusal, text: &mut [u8], at: usize) -> usize {
-    let at = say(b"refused", text, at);
-    let at = count(why.number() as usize, text, at);
-    end(text, at)
-}
-
-// What writing to a buffer came to: a name, how many octets stand at its start, and these.
-pub fn written(name: &[u8], w: Written, out: &[u8], text: &mut [u8], at: usize) -> usize {
-    match w {
-        Written::Octets(n) => {
-            let at = say(name, text, at);
-            counted(n, out, text, at)
+// A name, of up to twelve letters.
+pub fn letters(name: u64, text: &mut [u8], at: usize) -> usize {
+    let mut word = [0u8; 12];
+    let mut n = name;
+    let mut i = 12;
+    while 0 < i {
+        if n == 0 {
+            return say(&word[i..], text, at);
         }
-        Written::Refused(why) => refusal(why, text, at),
+        i -= 1;
+        word[i] = 96 + (n % 32) as u8;
+        n = n / 32;
     }
+    say(&word, text, at)
 }
 
-// `line N: `, and what is the matter with the line.
+// So many octets from a place on; fewer if there are not so many.
+fn part(octets: &[u8], from: usize, count: usize) -> &[u8] {
+    if octets.len() < from {
+        return &octets[..0];
+    }
+    if octets.len() - from < count {
+        return &octets[from..];
+    }
+    let end = from + count;
+    &octets[from..end]
+}
+
+// ---- a row
+// A number by its sort.
+fn numeral(sort: u8, v: u64, text: &mut [u8], at: usize) -> usize {
+    if sort < 6 {
+        return hex(v, sort as usize, text, at);
+    }
+    if sort == 6 {
+        return count(v, text, at);
+    }
+    let at = say(b" ", text, at);
+    letters(v, text, at)
+}
+
+// Octets by their sort.
+fn run(sort: u8, v: u64, octets: &[u8], text: &mut [u8], at: usize) -> usize {
+    if sort < 12 {
+        let at = count(v, text, at);
+        return field(part(octets, 0, v as usize), text, at);
+    }
+    let run = part(octets, (v / 65536) as usize, (v % 65536) as usize);
+    field(run, text, at)
+}
+
+// A piece of a row.
+fn piece(sort: u8, v: u64, a: &[u8], b: &[u8], c: &[u8], text: &mut [u8], at: usize) -> usize {
+    if sort < 8 {
+        return numeral(sort, v, text, at);
+    }
+    if sort % 4 == 0 {
+        return run(sort, v, a, text, at);
+    }
+    if sort % 4 == 1 {
+        return run(sort, v, b, text, at);
+    }
+    run(sort, v, c, text, at)
+}
+
+// Prints a row behind what stands in the text up to `at`, with octets of three buffers.
+pub fn print(row: Row, a: &[u8], b: &[u8], c: &[u8], text: &mut [u8], at: usize) -> usize {
+    let mut at = letters(row.name, text, at);
+    let mut sorts = row.sorts;
+    let mut k = 0;
+    while k < 8 {
+        let sort = (sorts % 16) as u8;
+        if sort == 0 {
+            return at;
+        }
+        at = piece(sort, row.values[k], a, b, c, text, at);
+        sorts = sorts / 16;
+        k += 1;
+    }
+    at
+}
+
+// `line N`, and what is the matter with the line.
 pub fn trouble(line: u64, what: &[u8], text: &mut [u8], at: usize) -> usize {
     let at = say(b"line ", text, at);
     let at = number(line, text, at);
-    let at = say(b": ", text, at);
     let at = say(what, text, at);
     end(text, at)
 }

@@ -1,45 +1,37 @@
 -- What the proofs of `bench` cite: one law for each return, over plain variables.
 use Prim.Native.Nat.{ℕ, zero, suc, _+_, _-_, _≤_, _<_}
 use mathlib.Core.Path.{_≡_, refl, sym, ap, _∙_}
-use mathlib.Core.Bool.{Bool, true, false, not, cond, _&&_, _||_}
+use mathlib.Core.Bool.{Bool, true, false, not, _&&_}
 use mathlib.Core.List.{List, [], _∷_, _++_}
 use native.Mathlib.Omega.{arith}
 use native.Mathlib.Numerals.{add-one}
 use lib.ListN.{length, take, drop, getD, set, replicate, length-set}
 use lib.Seq.{take-suc-set, take-length}
-use lib.Dec.{eqb}
+use lib.Dec.{eqb, ltb}
 use borrow.Author.Needs.{needs}
-use borrow.Author.Tests.{eq-eqb, ne-eqb, not-true, not-false}
+use borrow.Author.Tests.{eq-eqb, ne-eqb, lt-ltb, le-ltb, ltb-true, not-true, not-false}
+use Rattle.types.specs.declared.Kind.{Kind}
+use Rattle.types.specs.declared.Kind.the-variants.{Command}
 use Rattle.types.specs.declared.Record.{Record}
 use Rattle.types.specs.declared.Slot.{Slot}
 use Rattle.skelmarix.specs.Rules.{slotCount, slotAt, withSlots, freshRecord, Answer, state, after, takeMessage, takePage}
-use Rattle.octets.specs.Tests.{both, clash}
-use Rattle.words.specs.declared.Number.{Number}
-use Rattle.words.specs.declared.Octets.{Octets}
-use Rattle.words.specs.Words.{isName, wordIn, noWord}
-use Rattle.words.specs.Says.{numberIn, isFixed, fixedIn, isOctets, Reads}
-use Rattle.types.specs.declared.Kind.{Kind}
-use Rattle.types.specs.declared.Kind.the-variants.{Command, Response}
-use Rattle.lines.specs.Lines.{heardSteps}
-use Rattle.bench.specs.declared.Lent.{Lent}
+use Rattle.words.specs.declared.line.Line.{Line}
+use Rattle.words.specs.Line.{Gathered, lineRead, gathered, silent, Reads}
+use Rattle.lines.specs.Lent.{lentOf, kindBy, senderOf}
 use Rattle.bench.specs.declared.Bench.{Bench}
 use Rattle.bench.specs.declared.Heard.{Heard}
-use Rattle.bench.specs.Lines
+use Rattle.bench.specs.Lines as rule
+use Rattle.bench.specs.Lines.{held, changed, Leaves, SlotPut, Untouched}
 
-pub wanted-right : (n p : ℕ) → n ≡ 65535 → p ≡ Lines.wantedOf n p
-wanted-right n p e = rw (eq-eqb n 65535 e)
+pub start-told : (r : Record) → r ≡ freshRecord slotCount Command
+    → record { «record» = r; lent = rule.allRight; numbered = false } ≡ rule.atStart
+start-told r e = rw e
 
-pub wanted-other : (n p : ℕ) → (n ≡ 65535 → ⊥) → n ≡ Lines.wantedOf n p
-wanted-other n p f = rw (ne-eqb n 65535 f)
-
-pub lent-some : (w n p all : ℕ) → w ≡ Lines.wantedOf n p → w < all → w ≡ Lines.lentOf n p all
-lent-some w n p all e l = rw (← e) (omega arith)
-
-pub lent-all : (w n p all : ℕ) → w ≡ Lines.wantedOf n p → all ≤ w → all ≡ Lines.lentOf n p all
-lent-all w n p all e l = rw (← e) (omega arith)
+clash : (b : Bool) → b ≡ true → b ≡ false → ⊥
+clash b p q = let z : _≡_ {A = ℕ} 0 1 = cc in omega arith
 
 -- ---- filling
--- up to i every octet is x, and behind it as it was
+-- up to i every octet is x
 pub record Filled (x : ℕ) (d : List ℕ) (i : ℕ) (b : List ℕ) : Type 0 where
   pub some : i ≤ length d
   pub long : length b ≡ length d
@@ -67,260 +59,176 @@ module _ (x : ℕ) (d : List ℕ) (i : ℕ) (b : List ℕ) (c : Filled x d i b) 
       let f : length b ≡ i = omega (arith, c .long, e) in
       sym (rw f at (take-length b)) ∙ rw (← e) (c .is)
 
-pub start-told : (r : Record) (l : Lent) → r ≡ freshRecord slotCount Command → l ≡ Lines.allRight
-    → record { «record» = r; lent = l; numbered = false } ≡ Lines.atStart
-start-told r l e f = rw (e, f)
-
 -- ---- taking
+module _ (row : ℕ) (octets : List ℕ) (r q : Record) (a : Answer) (cells output cells′ output′ : List ℕ) where
+  pub call-message : (sender : ℕ) (ud : List ℕ) → row ≡ 1 → sender ≡ senderOf octets → ud ≡ drop 4 octets
+      → after a q cells′ output′ ≡ takeMessage slotCount (state r cells output) sender ud
+      → after a q cells′ output′ ≡ rule.call row octets (state r cells output)
+  call-message sender ud e f g h = rw (eq-eqb row 1 e) (h ∙ rw (f, g))
+
+  pub call-page : (row ≡ 1 → ⊥) → after a q cells′ output′ ≡ takePage slotCount (state r cells output) octets
+      → after a q cells′ output′ ≡ rule.call row octets (state r cells output)
+  call-page f h = rw (ne-eqb row 1 f) h
+
 -- what a call left of the octets lent, before the rest, is what the line leaves
-module _ (b b′ : Bench) (cells output x y : List ℕ) (n m : ℕ) (a : Answer) (r : Record) (z : Heard)
-    (cells-lent : n ≡ Lines.lentOf (b .lent .cells) 6432 (length cells)) (output-lent : m ≡ Lines.lentOf (b .lent .output) 2142 (length output))
-    (with-it : b′ ≡ Lines.withRecord b r) (bench-is : z .bench ≡ b′) (heard : z .understood ≡ true) where
-  all-n : n - 0 ≡ n
-  all-n = omega arith
+pub taken-told : (b b′ : Bench) (row : ℕ) (octets cells output x y : List ℕ) (n m : ℕ) (a : Answer) (r : Record)
+    → n ≡ lentOf (getD (b .lent) 0 0) 6432 (length cells) → m ≡ lentOf (getD (b .lent) 1 0) 2142 (length output)
+    → b′ ≡ rule.withRecord b r
+    → after a r x y ≡ rule.call row octets (state (b .«record») (take (n - 0) cells) (take (m - 0) output))
+    → held b′ (x ++ drop (n - 0) cells) (y ++ drop (m - 0) output)
+    ≡ rule.taken (held b cells output) (rule.call row octets (rule.called (held b cells output)))
+taken-told b b′ row octets cells output x y n m a r c o w is =
+    let all-n : n - 0 ≡ n = omega arith in
+    let all-m : m - 0 ≡ m = omega arith in
+    rw (w, ← c, ← o, all-n, all-m, ← (rw (all-n, all-m) at is))
 
-  all-m : m - 0 ≡ m
-  all-m = omega arith
-
-  pub message-told : (sender : ℕ) (ud : List ℕ)
-      → after a r x y ≡ takeMessage slotCount (state (b .«record») (take (n - 0) cells) (take (m - 0) output)) sender ud
-      → Lines.Does (Lines.asks (Lines.message sender ud)) (Lines.held b cells output) z (x ++ drop (n - 0) cells) (y ++ drop (m - 0) output)
-  message-told sender ud is = record { holds = rw (bench-is, with-it, ← cells-lent, ← output-lent, all-n, all-m, ← (rw (all-n, all-m) at is)); told = heard }
-
-  pub page-told : (p : List ℕ) → after a r x y ≡ takePage slotCount (state (b .«record») (take (n - 0) cells) (take (m - 0) output)) p
-      → Lines.Does (Lines.asks (Lines.page p)) (Lines.held b cells output) z (x ++ drop (n - 0) cells) (y ++ drop (m - 0) output)
-  page-told p is = record { holds = rw (bench-is, with-it, ← cells-lent, ← output-lent, all-n, all-m, ← (rw (all-n, all-m) at is)); told = heard }
-
--- ---- what is not understood
-pub unclear-told : (b : Bench) (cells output : List ℕ) (z : Heard) → z .bench ≡ b → z .understood ≡ false
-    → Lines.Does Lines.unclear (Lines.held b cells output) z cells output
-unclear-told b cells output z e f = record { holds = rw e; told = f }
-
--- ---- lines with octets: as they were read, so they are taken
-module _ (b : Bench) (cells output line work : List ℕ) (z : Heard) where
-  module _ (s : Number) (u : Octets) (l : Bool) (sender : s .understood ≡ isFixed 8 4294967295 (wordIn line 1))
-      (are : u .understood ≡ isOctets (length work) (wordIn line 2)) (last : l ≡ noWord line 3) where
-    pub no-message : not (s .understood && u .understood && l) ≡ true → Lines.Does Lines.unclear (Lines.held b cells output) z cells output
-        → Lines.Does (Lines.messageAsked (length work) line) (Lines.held b cells output) z cells output
-    no-message e d = rw (← sender, ← are, ← last, not-true (s .understood && u .understood && l) e) d
-
-    pub message-heard : (o work′ cells′ output′ : List ℕ) → s .value ≡ fixedIn 8 4294967295 (wordIn line 1) → Reads u (wordIn line 2) work work′
-        → not (s .understood && u .understood && l) ≡ false → o ≡ take (u .count) work′
-        → Lines.Does (Lines.asks (Lines.message (s .value) o)) (Lines.held b cells output) z cells′ output′
-        → Lines.Does (Lines.messageAsked (length work) line) (Lines.held b cells output) z cells′ output′
-    message-heard o work′ cells′ output′ v r e f d =
-        let all = not-false (s .understood && u .understood && l) e in
-        let us = both (s .understood) (u .understood) (both (s .understood && u .understood) l all .0) .1 in
-        rw (← sender, ← are, ← last, all, ← v, ← r .are us, ← f) d
-
-  module _ (u : Octets) (l : Bool) (are : u .understood ≡ isOctets (length work) (wordIn line 1)) (last : l ≡ noWord line 2) where
-    pub no-page : not (u .understood && l) ≡ true → Lines.Does Lines.unclear (Lines.held b cells output) z cells output
-        → Lines.Does (Lines.pageAsked (length work) line) (Lines.held b cells output) z cells output
-    no-page e d = rw (← are, ← last, not-true (u .understood && l) e) d
-
-    pub page-heard : (o work′ cells′ output′ : List ℕ) → Reads u (wordIn line 1) work work′ → not (u .understood && l) ≡ false → o ≡ take (u .count) work′
-        → Lines.Does (Lines.asks (Lines.page o)) (Lines.held b cells output) z cells′ output′
-        → Lines.Does (Lines.pageAsked (length work) line) (Lines.held b cells output) z cells′ output′
-    page-heard o work′ cells′ output′ r e f d =
-        let all = not-false (u .understood && l) e in
-        let us = both (u .understood) l all .0 in rw (← are, ← last, all, ← r .are us, ← f) d
-
--- ---- a fresh record
-pub kind-response : (t : Bool) → t ≡ true → Response ≡ Lines.kindBy t
-kind-response t e = rw e
-
-pub kind-command : (t : Bool) → t ≡ false → Command ≡ Lines.kindBy t
-kind-command t e = rw e
-
-pub fresh-told : (b b′ : Bench) (k : Kind) (r : Record) (cells output cells′ output′ : List ℕ) → r ≡ freshRecord slotCount k → b′ ≡ Lines.withRecord b r
-    → cells′ ≡ replicate (length cells) 0 → output′ ≡ replicate (length output) 0
-    → Lines.held b′ cells′ output′ ≡ Lines.done (Lines.held b cells output) (Lines.fresh k)
-fresh-told b b′ k r cells output cells′ output′ e f g i = rw (f, e, g, i)
-
-module _ (b : Bench) (cells output line v w : List ℕ) (z : Heard) (t u l : Bool) (first : v ≡ wordIn line 1) (again : w ≡ wordIn line 1)
-    (is-command : t ≡ isName v Lines.command′) (is-response : u ≡ isName w Lines.response′) (last : l ≡ noWord line 2) where
-  one : t ≡ isName (wordIn line 1) Lines.command′
-  one = rw (← first) is-command
-
-  two : u ≡ isName (wordIn line 1) Lines.response′
-  two = rw (← again) is-response
-
-  pub fresh-other : not ((t || u) && l) ≡ true → z .bench ≡ b → z .understood ≡ false → Lines.Does (Lines.freshAsked line) (Lines.held b cells output) z cells output
-  fresh-other e f g = rw (← one, ← two, ← last, not-true ((t || u) && l) e) (unclear-told b cells output z f g)
-
-  pub fresh-heard : (k : Kind) (b′ : Bench) (cells′ output′ : List ℕ) → not ((t || u) && l) ≡ false → k ≡ Lines.kindBy u
-      → Lines.held b′ cells′ output′ ≡ Lines.done (Lines.held b cells output) (Lines.fresh k) → z .bench ≡ b′ → z .understood ≡ true
-      → Lines.Does (Lines.freshAsked line) (Lines.held b cells output) z cells′ output′
-  fresh-heard k b′ cells′ output′ e i d f g =
-      rw (← one, ← two, ← last, not-false ((t || u) && l) e, ← i) (record { holds = rw f d; told = g })
-
--- ---- filling
-module _ (b : Bench) (cells output line : List ℕ) (z : Heard) (o : Number) (l : Bool) (is : o .understood ≡ isFixed 2 255 (wordIn line 1)) (last : l ≡ noWord line 2)
-    (f : z .bench ≡ b) where
-  pub fill-other : not (o .understood && l) ≡ true → z .understood ≡ false → Lines.Does (Lines.fillAsked line) (Lines.held b cells output) z cells output
-  fill-other e g = rw (← is, ← last, not-true (o .understood && l) e) (unclear-told b cells output z f g)
-
-  pub fill-heard : (cells′ output′ : List ℕ) → o .value ≡ fixedIn 2 255 (wordIn line 1) → not (o .understood && l) ≡ false
-      → cells′ ≡ replicate (length cells) (o .value) → output′ ≡ replicate (length output) (o .value) → z .understood ≡ true
-      → Lines.Does (Lines.fillAsked line) (Lines.held b cells output) z cells′ output′
-  fill-heard cells′ output′ v e c d g =
-      rw (← is, ← last, not-false (o .understood && l) e, ← v) (record { holds = rw (f, c, d); told = g })
+pub fresh-told : (row : ℕ) (k : Kind) (r : Record) (b c : Bench) → k ≡ kindBy (eqb row 5) → r ≡ freshRecord slotCount k → c ≡ rule.withRecord b r
+    → c ≡ rule.withRecord b (freshRecord slotCount (kindBy (eqb row 5)))
+fresh-told row k r b c e f g = rw (g, f, e)
 
 -- ---- lending and numbering
-pub lent-told : (b c : Bench) (x y n : ℕ) (z : Heard) → c ≡ Lines.withLent b (record { cells = x; output = y; buffer = n }) → z .bench ≡ c → z .bench ≡ Lines.lends b x y n
-lent-told b c x y n z e f = f ∙ e
+module _ (row n : ℕ) (b : Bench) where
+  pub note-lends : (c : Bench) → (ltb 7 row && ltb row 11) ≡ true → c ≡ rule.withLent b (set (b .lent) (row - 8) n) → c ≡ rule.noted row n b
+  note-lends c e f = rw e f
 
-module _ (b : Bench) (z : Heard) where
-  pub keeps-none : z .bench ≡ b → z .understood ≡ false → Lines.Keeps Lines.unclear b z
-  keeps-none f g = record { does = λ cells output. unclear-told b cells output z f g }
+  module _ (e : (ltb 7 row && ltb row 11) ≡ false) where
+    pub note-right : row ≡ 11 → rule.withLent b rule.allRight ≡ rule.noted row n b
+    note-right f = rw (e, eq-eqb row 11 f)
 
-  module _ (g : z .understood ≡ true) where
-    pub keeps-cells : (n : ℕ) → z .bench ≡ Lines.lends b n (b .lent .output) (b .lent .buffer) → Lines.Keeps (Lines.asks (Lines.lendCells n)) b z
-    keeps-cells n f = record { does = λ cells output. record { holds = rw f; told = g } }
+    module _ (f : row ≡ 11 → ⊥) where
+      pub note-number : row ≡ 12 → record { «record» = b .«record»; lent = b .lent; numbered = true } ≡ rule.noted row n b
+      note-number g = rw (e, ne-eqb row 11 f, eq-eqb row 12 g)
 
-    pub keeps-output : (n : ℕ) → z .bench ≡ Lines.lends b (b .lent .cells) n (b .lent .buffer) → Lines.Keeps (Lines.asks (Lines.lendOutput n)) b z
-    keeps-output n f = record { does = λ cells output. record { holds = rw f; told = g } }
+      pub note-none : (row ≡ 12 → ⊥) → b ≡ rule.noted row n b
+      note-none g = rw (e, ne-eqb row 11 f, ne-eqb row 12 g)
 
-    pub keeps-buffer : (n : ℕ) → z .bench ≡ Lines.lends b (b .lent .cells) (b .lent .output) n → Lines.Keeps (Lines.asks (Lines.lendBuffer n)) b z
-    keeps-buffer n f = record { does = λ cells output. record { holds = rw f; told = g } }
+module _ (row : ℕ) (e : (ltb 7 row && ltb row 11) ≡ true) where
+  both : (a b : Bool) → a && b ≡ true → (a ≡ true) × (b ≡ true)
+  both true b e = (refl, e)
+  both false b e = absurd (clash false e refl)
 
-    pub keeps-right : z .bench ≡ Lines.lends b 65535 65535 65535 → Lines.Keeps (Lines.asks Lines.lendRight) b z
-    keeps-right f = record { does = λ cells output. record { holds = rw f; told = g } }
+  pub lends-low : 8 ≤ row
+  lends-low = ltb-true 7 row (both (ltb 7 row) (ltb row 11) e .0)
 
-    pub keeps-number : z .bench ≡ record { «record» = b .«record»; lent = b .lent; numbered = true } → Lines.Keeps (Lines.asks Lines.number) b z
-    keeps-number f = record { does = λ cells output. record { holds = rw f; told = g } }
+  pub lends-high : row - 8 < 3
+  lends-high = omega (arith, lends-low, ltb-true row 11 (both (ltb 7 row) (ltb row 11) e .1))
 
-  -- by cases on a test of the rule
-  module _ (t q : Bool) (is : t ≡ q) (x y : Lines.Asked) where
-    pub keeps-so : t ≡ true → Lines.Keeps x b z → Lines.Keeps (cond q x y) b z
-    keeps-so e d = rw (← is, e) d
+-- ---- by the row
+module _ (row n : ℕ) (octets : List ℕ) (b c : Bench) (cells output cells′ output′ : List ℕ) where
+  pub changed-takes : row < 3 → held c cells′ output′ ≡ rule.taken (held b cells output) (rule.call row octets (rule.called (held b cells output)))
+      → held c cells′ output′ ≡ changed row n octets (held b cells output)
+  unfolding changed
+  changed-takes l h = rw (lt-ltb row 3 l) h
 
-    pub keeps-else : t ≡ false → Lines.Keeps y b z → Lines.Keeps (cond q x y) b z
-    keeps-else e d = rw (← is, e) d
+  module _ (l : 3 ≤ row) where
+    module _ (x : ℕ) (cells-are : cells′ ≡ replicate (length cells) x) (output-is : output′ ≡ replicate (length output) x) where
+      pub changed-fresh : (b′ : Bench) → x ≡ 0 → row < 6 → b′ ≡ rule.withRecord b (freshRecord slotCount (kindBy (eqb row 5))) → c ≡ b′
+          → held c cells′ output′ ≡ changed row n octets (held b cells output)
+      unfolding changed
+      changed-fresh b′ z m e f = rw (le-ltb row 3 l, lt-ltb row 6 m, ← e, ← f, cells-are, output-is, z)
 
-pub named-lends : (b : Bench) (z : Heard) (line w : List ℕ) (v : ℕ) → w ≡ wordIn line 1 → v ≡ numberIn false 16384 (wordIn line 2)
-    → Lines.Keeps (Lines.lendNamed w v) b z → Lines.Keeps (Lines.lendNamed (wordIn line 1) (numberIn false 16384 (wordIn line 2))) b z
-named-lends b z line w v e f d = rw (← e, ← f) d
+      pub changed-fills : row ≡ 6 → x ≡ getD octets 0 0 → c ≡ b → held c cells′ output′ ≡ changed row n octets (held b cells output)
+      unfolding changed
+      changed-fills e f g = rw (le-ltb row 3 l, le-ltb row 6 (omega arith), eq-eqb row 6 e, ← f, cells-are, output-is, g)
 
-pub both-told : (t u p q : Bool) → t ≡ p → u ≡ q → (t && u) ≡ (p && q)
-both-told t u p q e f = rw (e, f)
+    module _ (m : 6 ≤ row) where
+      pub changed-notes : (d : Bench) → (row ≡ 6 → ⊥) → d ≡ rule.noted row n b → c ≡ d → held c cells output ≡ changed row n octets (held b cells output)
+      unfolding changed
+      changed-notes d f e g = rw (le-ltb row 3 l, le-ltb row 6 m, ne-eqb row 6 f, ← e, g)
 
-pub word-named : (line w name : List ℕ) (i : ℕ) (t : Bool) → w ≡ wordIn line i → t ≡ isName w name → t ≡ isName (wordIn line i) name
-word-named line w name i t e f = rw (← e) f
+pub changed-none : (row n : ℕ) (octets : List ℕ) (b c : Bench) (cells output : List ℕ) → 13 < row → c ≡ b
+    → held c cells output ≡ changed row n octets (held b cells output)
+unfolding changed
+changed-none row n octets b c cells output l e =
+    rw (le-ltb row 3 (omega arith), le-ltb row 6 (omega arith), ne-eqb row 6 (λ z. omega (arith, z)), lt-ltb 7 row (omega arith), le-ltb row 11 (omega arith), ne-eqb row 11 (λ z. omega (arith, z)), ne-eqb row 12 (λ z. omega (arith, z)), e)
+
+pub changed-as : (row n : ℕ) (octets : List ℕ) (b c : Bench) (h : rule.Held) (cells′ output′ : List ℕ) → held b cells′ output′ ≡ changed row n octets h → c ≡ b
+    → held c cells′ output′ ≡ changed row n octets h
+changed-as row n octets b c h cells′ output′ e f = rw f e
 
 -- ---- putting a slot
-pub slot-put : (b b′ : Bench) (i : ℕ) (x : Slot) (q : Record) (z : Heard) → q ≡ withSlots (b .«record») (set (b .«record» .slots) i x) → b′ ≡ Lines.withRecord b q
-    → z .bench ≡ b′ → z .understood ≡ true → Lines.SlotPut b z
-slot-put b b′ i x q z e f g t =
-    record {
-      place = i;
-      put = x;
-      is = λ _. g ∙ f ∙ ap (Lines.withRecord b) e;
-      kept = λ k. absurd (clash (z .understood) t k);
-    }
+pub put-told : (b b′ : Bench) (i : ℕ) (x : Slot) (q : Record) (z : Heard) → q ≡ withSlots (b .«record») (set (b .«record» .slots) i x)
+    → b′ ≡ rule.withRecord b q → z .bench ≡ b′ → z .bench ≡ rule.withRecord b (withSlots (b .«record») (set (b .«record» .slots) i x))
+put-told b b′ i x q z e f g = g ∙ f ∙ ap (rule.withRecord b) e
 
-pub slot-kept : (b : Bench) (z : Heard) → z .bench ≡ b → z .understood ≡ false → Lines.SlotPut b z
-slot-kept b z e t =
-    record {
-      place = 0;
-      put = slotAt (b .«record» .slots) 0;
-      is = λ k. absurd (clash (z .understood) k t);
-      kept = λ _. e;
-    }
+pub slot-put : (s : Gathered) (b : Bench) (i : ℕ) (x : Slot) (z : Heard) → i ≡ getD (s .values) 0 0
+    → z .bench ≡ rule.withRecord b (withSlots (b .«record») (set (b .«record» .slots) i x)) → z .understood ≡ true → SlotPut s b z
+slot-put s b i x z e f t =
+    record { put = x; is = λ _. rw (← e) f; kept = λ k. absurd (clash (z .understood) t k) }
 
--- ---- the table
-pub keeps-comes : (a : Lines.Asked) (b : Bench) (cells output : List ℕ) (z : Heard) → Lines.Keeps a b z → Lines.Comes (Lines.line a) b cells output z cells output
-keeps-comes a b cells output z k = k .does cells output
+pub slot-kept : (s : Gathered) (b : Bench) (z : Heard) → z .bench ≡ b → z .understood ≡ false → SlotPut s b z
+slot-kept s b z e t =
+    record { put = slotAt (b .«record» .slots) 0; is = λ k. absurd (clash (z .understood) k t); kept = λ _. e }
 
-pub put-comes : (b : Bench) (cells output : List ℕ) (z : Heard) → Lines.SlotPut b z → Lines.Comes Lines.puts b cells output z cells output
-put-comes b cells output z p = (p, refl, refl)
+-- ---- all lines
+module _ (line : List ℕ) (b : Bench) (cells output : List ℕ) (z : Heard) (t : Bool) (is : t ≡ silent line) where
+  pub leaves-nothing : t ≡ true → z .bench ≡ b → z .understood ≡ true → Leaves line b cells output z cells output
+  leaves-nothing e f g = rule.nothing (sym is ∙ e) g (rw f)
 
-pub other-comes : (b : Bench) (cells output : List ℕ) (z : Heard) → z .bench ≡ b → Lines.Comes (Lines.line Lines.other) b cells output z cells output
-other-comes b cells output z e = record { holds = rw e; told = tt }
+  module _ (e : t ≡ false) (l : Line) (line′ : List ℕ) (r : Reads l line line′) where
+    understood-is : l .understood ≡ lineRead line .understood
+    understood-is = ap (λ (s : Gathered). s .understood) (r .is)
 
--- by the name of a row, and by another
-module _ (w name : List ℕ) (t : Bool) (is : t ≡ isName w name) (x y : Lines.Line) (b : Bench) (cells output cells′ output′ : List ℕ) (z : Heard) where
-  pub named-so : t ≡ true → Lines.Comes x b cells output z cells′ output′ → Lines.Comes (cond (isName w name) x y) b cells output z cells′ output′
-  named-so e d = rw (← is, e) d
+    pub leaves-unclear : not (l .understood) ≡ true → z .bench ≡ b → z .understood ≡ false → Leaves line b cells output z cells output
+    leaves-unclear f g h =
+        let no : lineRead line .understood ≡ false = sym understood-is ∙ not-true (l .understood) f in
+        rule.other (sym is ∙ e) (rw no) (h ∙ sym no) (rw (no, g))
 
-  pub named-else : t ≡ false → Lines.Comes y b cells output z cells′ output′ → Lines.Comes (cond (isName w name) x y) b cells output z cells′ output′
-  named-else e d = rw (← is, e) d
+    module _ (f : not (l .understood) ≡ false) where
+      yes : lineRead line .understood ≡ true
+      yes = sym understood-is ∙ not-false (l .understood) f
 
-module _ (line w : List ℕ) (n : ℕ) (t : Bool) (first : w ≡ wordIn line 0) (is : t ≡ Lines.silent w) (b : Bench) (cells output cells′ output′ : List ℕ) (z : Heard) where
-  pub silent-so : t ≡ true → z .bench ≡ b → Lines.Comes (Lines.lineOf n line) b cells output z cells output
-  silent-so e f = rw (← first, ← is, e) (other-comes b cells output z f)
+      row-is : l .row ≡ lineRead line .row
+      row-is = ap (λ (s : Gathered). s .row) (r .is)
 
-  pub silent-else : t ≡ false → Lines.Comes (Lines.taking n w line) b cells output z cells′ output′ → Lines.Comes (Lines.lineOf n line) b cells output z cells′ output′
-  silent-else e d = rw (← first, ← is, e) d
+      pub leaves-slot : l .row ≡ 13 → SlotPut (gathered l line′) b z → Leaves line b cells output z cells output
+      leaves-slot g p = rule.slot (sym is ∙ e) (rw (yes, ← row-is) (eq-eqb (l .row) 13 g)) (rw (r .is) at p) refl refl
+
+      pub leaves-other : (octets cells′ output′ : List ℕ) → (l .row ≡ 13 → ⊥) → octets ≡ take (l .end) line′ → z .understood ≡ true
+          → held (z .bench) cells′ output′ ≡ changed (l .row) (getD (l .values) 0 0) octets (held b cells output)
+          → Leaves line b cells output z cells′ output′
+      leaves-other octets cells′ output′ g o h k =
+          let values-is : l .values ≡ lineRead line .values = ap (λ (s : Gathered). s .values) (r .is) in
+          let octets-is : octets ≡ lineRead line .octets = o ∙ ap (λ (s : Gathered). s .octets) (r .is) in
+          rule.other (sym is ∙ e) (rw (yes, ← row-is) (ne-eqb (l .row) 13 g)) (h ∙ sym yes) (rw (yes, ← row-is, ← values-is, ← octets-is) k)
+
+-- a line that is understood may write to the buffer; one that is not has not
+module _ (u : Bool) (before : List ℕ) where
+  pub heard : (after : List ℕ) → u ≡ true → Untouched u before after
+  heard after e = record { same = λ f. absurd (clash u e f) }
+
+  pub unheard : Untouched u before before
+  unheard = record { same = λ f. refl }
 
 pub ruleset steps = (
   needs,
-  slot-put,
-  slot-kept,
-  kind-command,
-  kind-response,
-  fresh-told,
-  fresh-other,
-  fresh-heard,
-  fill-other,
-  fill-heard,
-  lent-told,
-  keeps-none,
-  keeps-cells,
-  keeps-output,
-  keeps-buffer,
-  keeps-right,
-  keeps-number,
-  keeps-so,
-  keeps-else,
-  named-lends,
-  both-told,
-  word-named,
-  not-true,
-  not-false,
-  heardSteps,
-  message-told,
-  page-told,
-  unclear-told,
-  no-message,
-  message-heard,
-  no-page,
-  page-heard,
+  start-told,
   filled-none,
   filled-more,
   filled-all,
-  start-told,
-  wanted-right,
-  wanted-other,
-  lent-some,
-  lent-all,
-)
-
-pub silent-none : (w : List ℕ) → length w ≡ 0 → true ≡ Lines.silent w
-silent-none w e = rw (eq-eqb (length w) 0 e)
-
-pub silent-mark : (w : List ℕ) → (length w ≡ 0 → ⊥) → eqb (getD w 0 0) 35 ≡ Lines.silent w
-silent-mark w f = rw (ne-eqb (length w) 0 f)
-
--- what one line leaves for all cells and outputs it leaves for these
-pub at-these : (l : Lines.Line) (b : Bench) (cells output : List ℕ) (z : Heard) → ((x : List ℕ) (y : List ℕ) → Lines.Comes l b x y z x y) → Lines.Comes l b cells output z cells output
-at-these l b cells output z f = f cells output
-
-pub changed-lends : (w l : List ℕ) (t u : Bool) (b : Bench) (cells output : List ℕ) (z : Heard) → t ≡ isName w Lines.fresh′ → t ≡ false → u ≡ isName w Lines.fill′ → u ≡ false
-    → ((x : List ℕ) (y : List ℕ) → Lines.Comes (Lines.lending w l) b x y z x y) → Lines.Comes (Lines.changed w l) b cells output z cells output
-changed-lends w l t u b cells output z is e is′ f d = rw (← is, e, ← is′, f) (d cells output)
-
-pub ruleset tableSteps = (
-  heardSteps,
-  not-true,
-  keeps-comes,
-  put-comes,
-  other-comes,
-  named-so,
-  named-else,
-  silent-so,
-  silent-else,
-  silent-none,
-  silent-mark,
-  at-these,
+  fresh-told,
+  call-message,
+  call-page,
+  taken-told,
+  note-lends,
+  note-right,
+  note-number,
+  note-none,
+  lends-low,
+  lends-high,
+  changed-takes,
+  changed-fresh,
+  changed-fills,
+  changed-notes,
+  changed-none,
+  changed-as,
+  put-told,
+  slot-put,
+  slot-kept,
+  leaves-nothing,
+  leaves-unclear,
+  leaves-slot,
+  leaves-other,
+  heard,
+  unheard,
 )

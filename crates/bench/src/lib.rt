@@ -1,27 +1,21 @@
-// The bench: a line of text is a call of the library, and its answer is a line of text again. Here are the lines that change what is held
-// from line to line: the record, the cells, the output, and how much of each buffer is lent.
-mod held;
+// The bench: a line of text is a call of the library, and its answer is a line of text again. From line to line a record, the cells, the output
+// and the buffer are held, and how much of each is lent.
+mod asks;
+mod changes;
 mod slots;
-pub mod table;
 
-use lines::RIGHT;
-use types::Kind;
-use types::Record;
+use words::line::Line;
+use words::table;
 ghost use mathlib.Core.Path.{_≡_};
 ghost use mathlib.Core.Bool.{true, false};
-ghost use Rattle.bench.specs.Lines.{atStart, allRight};
+ghost use lib.ListN.{getD};
+ghost use Rattle.bench.specs.Lines.{atStart, held, changed, Leaves, Untouched};
 
-// How many octets of each buffer are lent; `RIGHT` stands for the right number.
-pub struct Lent {
-    pub cells: usize,
-    pub output: usize,
-    pub buffer: usize,
-}
-
-// What is held from line to line beside the buffers, and whether answers are numbered.
+// What is held beside the buffers: the record, how many octets of cells, output and buffer are lent (`RIGHT` stands for the right number), and
+// whether answers are numbered.
 pub struct Bench {
-    pub record: Record,
-    pub lent: Lent,
+    pub record: types::Record,
+    pub lent: [usize; 3],
     pub numbered: bool,
 }
 
@@ -32,29 +26,18 @@ pub struct Heard {
     pub end: usize,
 }
 
-// The right numbers.
-pub(crate) fn all_right() -> Lent
-    ensures { λ r. ⌜ r ≡ allRight ⌝ }
-{
-    Lent {
-        cells: RIGHT,
-        output: RIGHT,
-        buffer: RIGHT,
-    }
-}
-
 // What is held before the first line: a fresh record for commands.
 pub fn start() -> Bench
     ensures { λ r. ⌜ r ≡ atStart ⌝ }
 {
     Bench {
-        record: skelmarix::fresh(Kind::Command),
-        lent: all_right(),
+        record: skelmarix::fresh(types::Kind::Command),
+        lent: [lines::RIGHT; 3],
         numbered: false,
     }
 }
 
-// A line that is understood, and what is held afterwards; and one that is not.
+// A line that is understood, and one that is not.
 pub(crate) fn answered(b: Bench, end: usize) -> Heard
     ensures { λ r. ⌜ (r .bench ≡ b) × (r .understood ≡ true) ⌝ }
 {
@@ -73,4 +56,80 @@ pub(crate) fn unanswered(b: Bench, at: usize) -> Heard
         understood: false,
         end: at,
     }
+}
+
+// Fills the buffer if the line says so.
+fn spread(row: usize, octets: &[u8], buffer: &mut [u8]) {
+    if row == table::FILL {
+        changes::fill(buffer, lines::octet(octets, 0));
+    }
+}
+
+// Changes what is held as a line asks, and prints its answer.
+fn change(
+    l: Line,
+    octets: &[u8],
+    b: Bench,
+    cells: &mut [u8],
+    output: &mut [u8],
+    buffer: &mut [u8],
+    text: &mut [u8],
+    at: usize,
+) -> Heard
+    ensures { λ r. ⌜ (r .understood ≡ true) × (held (r .bench) (now (cells .exit)) (now (output .exit)) ≡ changed (l .row) (getD (l .values) 0 0) (now (octets .entry)) (held b (now (cells .entry)) (now (output .entry)))) ⌝ }
+{
+    let n = l.values[0] as usize;
+    let made = changes::change(l.row, n, octets, b, cells, output);
+    spread(l.row, octets, buffer);
+    let after = made.bench;
+    answered(
+        after,
+        answers::print(made.row, cells, output, buffer, text, at),
+    )
+}
+
+// Makes the call that a line asks for, one that puts no slot, and prints its answer.
+fn done(
+    l: Line,
+    octets: &[u8],
+    b: Bench,
+    cells: &mut [u8],
+    output: &mut [u8],
+    buffer: &mut [u8],
+    text: &mut [u8],
+    at: usize,
+) -> Heard
+    ensures { λ r. ⌜ (r .understood ≡ true) × (held (r .bench) (now (cells .exit)) (now (output .exit)) ≡ changed (l .row) (getD (l .values) 0 0) (now (octets .entry)) (held b (now (cells .entry)) (now (output .entry)))) ⌝ }
+{
+    if table::SLOT < l.row {
+        return answered(b, asks::ask(l, octets, b, cells, output, buffer, text, at));
+    }
+    change(l, octets, b, cells, output, buffer, text, at)
+}
+
+// Answers a line behind what stands in the text up to `at`. The line's octets are read to its own start.
+pub fn answer(
+    line: &mut [u8],
+    b: Bench,
+    cells: &mut [u8],
+    output: &mut [u8],
+    buffer: &mut [u8],
+    text: &mut [u8],
+    at: usize,
+) -> Heard
+    ensures { λ r. ⌜ Leaves (now (line .entry)) b (now (cells .entry)) (now (output .entry)) r (now (cells .exit)) (now (output .exit)) ⌝ }
+    ensures { λ r. ⌜ Untouched (r .understood) (now (buffer .entry)) (now (buffer .exit)) ⌝ }
+{
+    if words::line::is_silent(line) {
+        return answered(b, at);
+    }
+    let l = words::line::read(line);
+    if !l.understood {
+        return unanswered(b, at);
+    }
+    if l.row == table::SLOT {
+        return slots::slot_line(b, l, line, text, at);
+    }
+    let octets = skelmarix::up_to(line, l.end);
+    done(l, octets, b, cells, output, buffer, text, at)
 }

@@ -1,35 +1,22 @@
 // `slot I RANK SENDER WIDTH REFERENCE SERIAL IDENTIFIER TOTAL PART..` puts a slot into the record as it is written, so that records which the
-// library could not have made can be tried. Which slot a line writes is held to stored lines.
+// library could not have made can be tried. What the slot holds is held to stored lines.
 use crate::Bench;
 use crate::Heard;
-use crate::answered;
-use crate::held::with_record;
-use crate::unanswered;
-use answers::count;
-use answers::end;
-use answers::say;
-use answers::series;
+use answers::record;
+use answers::rows;
+use lines::pair_at;
 use types::Key;
-use types::MessageIdentifier;
 use types::PARTS;
 use types::Record;
-use types::SerialNumber;
 use types::Slot;
-use words::fixed_at;
-use words::number_at;
-use words::number_in;
-use words::word;
+use words::line::Line;
 ghost use mathlib.Core.Path.{_≡_};
+ghost use mathlib.Core.Bool.{true};
 ghost use Prim.Native.Nat.{_<_};
-ghost use lib.ListN.{length, set};
+ghost use lib.ListN.{set};
 ghost use Rattle.skelmarix.specs.Rules.{withSlots};
-ghost use Rattle.bench.specs.Lines.{SlotPut};
-
-// What the words of a slot come to.
-struct Written {
-    understood: bool,
-    slot: Slot,
-}
+ghost use Rattle.words.specs.Line.{gathered};
+ghost use Rattle.bench.specs.Lines.{SlotPut, withRecord};
 
 // The parts read so far, and which numbers were given.
 struct Parts {
@@ -40,57 +27,14 @@ struct Parts {
 }
 
 // ---- parts
-// What a word says of one part.
-struct Part {
-    understood: bool,
-    place: usize,
-    length: u8,
-}
-
-// A number up to 255 as an octet.
-fn octet(n: u32) -> u8 {
-    (n % 256) as u8
-}
-
-// The part that a word tells whose number stands before the mark at a place, and its length behind.
-fn part_at(w: &[u8], at: usize) -> Part
-    requires { ⌜ at < length (now w) ⌝ }
-{
-    let next = at + 1;
-    let number = number_in(&w[0..at], false, 16);
-    let size = number_in(&w[next..], false, 255);
-    Part {
-        understood: number.understood & size.understood & (number.value != 0),
-        place: ((number.value + 15) % 16) as usize,
-        length: octet(size.value),
-    }
-}
-
-// One part more, held or not; a number counts once.
-fn with_part(p: Parts, part: Part, held: bool) -> Parts {
+// One part more; a number counts once.
+fn with_part(p: Parts, part: words::line::Part) -> Parts {
     let mut q = p;
-    let i = part.place;
-    if i < PARTS {
-        q.understood = part.understood & !p.given[i];
-        q.given[i] = true;
-        q.held[i] = held;
-        q.lengths[i] = part.length;
-    }
-    q
-}
-
-// `NUMBER:LENGTH` or `NUMBER=LENGTH`.
-fn with_word(p: Parts, w: &[u8]) -> Parts {
-    let colon = bytes::scan::find(w, 0, w.len(), 58);
-    if colon < w.len() {
-        return with_part(p, part_at(w, colon), true);
-    }
-    let sign = bytes::scan::find(w, 0, w.len(), 61);
-    if sign < w.len() {
-        return with_part(p, part_at(w, sign), false);
-    }
-    let mut q = p;
-    q.understood = false;
+    let i = ((part.number % 32 + 15) % 16) as usize;
+    q.understood = part.good & !p.given[i];
+    q.given[i] = true;
+    q.held[i] = part.held;
+    q.lengths[i] = (part.length % 256) as u8;
     q
 }
 
@@ -103,72 +47,49 @@ fn no_parts() -> Parts {
     }
 }
 
-// The parts from word 9 on: no more than there are numbers.
-fn parts_in(line: &[u8]) -> Parts {
+// The parts from a place on: no more than there are numbers.
+fn parts_in(line: &[u8], from: usize) -> Parts {
     let mut p = no_parts();
-    let mut i = 9;
-    while i < 26 {
-        let w = word(line, i);
-        if w.len() == 0 {
+    let mut at = from;
+    let mut i: usize = 0;
+    while i < PARTS + 1 {
+        if words::line::is_done(line, at) | !p.understood {
             return p;
         }
-        p = with_word(p, w);
-        if !p.understood {
-            return p;
-        }
+        let part = words::line::part_at(line, at);
+        at = part.at;
+        p = with_part(p, part);
         i += 1;
     }
     p
 }
 
 // ---- the slot
-// What the words of a key come to.
-struct Read {
-    understood: bool,
-    key: Key,
-}
-
-fn key_in(line: &[u8]) -> Read {
-    let sender = fixed_at(line, 3, 8, 4294967295);
-    let width = number_at(line, 4, 255);
-    let reference = number_at(line, 5, 65535);
-    let serial = fixed_at(line, 6, 4, 65535);
-    let identifier = fixed_at(line, 7, 4, 65535);
-    let messages = sender.understood & width.understood & reference.understood;
-    Read {
-        understood: messages & serial.understood & identifier.understood,
-        key: Key {
-            sender: sender.value,
-            width: octet(width.value),
-            reference: (reference.value % 65536) as u16,
-            serial: SerialNumber((serial.value % 65536) as u16),
-            identifier: MessageIdentifier((identifier.value % 65536) as u16),
-        },
+// SENDER, SERIAL and IDENTIFIER are the first eight octets of the line.
+fn key_of(l: Line, fields: &[u8]) -> Key {
+    Key {
+        sender: lines::sender_of(fields),
+        width: (l.values[3] % 256) as u8,
+        reference: (l.values[4] % 65536) as u16,
+        serial: types::SerialNumber(pair_at(fields, 4)),
+        identifier: types::MessageIdentifier(pair_at(fields, 6)),
     }
 }
 
-fn slot_in(line: &[u8]) -> Written {
-    let rank = number_at(line, 2, 255);
-    let read = key_in(line);
-    let total = number_at(line, 8, 255);
-    let parts = parts_in(line);
-    let key = read.key;
-    let lengths = parts.lengths;
-    let held = parts.held;
-    Written {
-        understood: rank.understood & read.understood & total.understood & parts.understood,
-        slot: Slot {
-            rank: octet(rank.value),
-            key: key,
-            total: octet(total.value),
-            lengths: lengths,
-            held: held,
-        },
+fn slot_of(l: Line, fields: &[u8], p: Parts) -> Slot {
+    let lengths = p.lengths;
+    let held = p.held;
+    Slot {
+        rank: (l.values[1] % 256) as u8,
+        key: key_of(l, fields),
+        total: (l.values[7] % 256) as u8,
+        lengths: lengths,
+        held: held,
     }
 }
 
-// The record with a slot in the place of another.
-fn replaced(r: Record, i: usize, x: Slot) -> Record
+// The record with a slot put.
+fn put_slot(r: Record, i: usize, x: Slot) -> Record
     requires { ⌜ i < 3 ⌝ }
     ensures { λ q. ⌜ q ≡ withSlots r (set (r .slots) i x) ⌝ }
 {
@@ -177,32 +98,33 @@ fn replaced(r: Record, i: usize, x: Slot) -> Record
     q
 }
 
-// `slot I`, and what it then holds.
+// `slot I` and what it then holds.
 fn say_slot(i: usize, x: Slot, text: &mut [u8], at: usize) -> usize {
-    let at = say(b"slot", text, at);
-    let at = count(i, text, at);
-    let at = series::slot(x, text, at);
-    end(text, at)
+    let at = record::alone(rows::one(rows::SLOT, 6, i as u64), text, at);
+    record::slot(x, text, at)
 }
 
-// Puts a slot.
-fn put_slot(b: Bench, i: usize, x: Slot, text: &mut [u8], at: usize) -> Heard
+fn put(b: Bench, i: usize, x: Slot, text: &mut [u8], at: usize) -> Heard
     requires { ⌜ i < 3 ⌝ }
-    ensures { λ r. ⌜ SlotPut b r ⌝ }
+    ensures { λ r. ⌜ (r .understood ≡ true) × (r .bench ≡ withRecord b (withSlots (b .«record») (set (b .«record» .slots) i x))) ⌝ }
 {
-    let record = b.record;
-    let after = replaced(record, i, x);
-    answered(with_record(b, after), say_slot(i, x, text, at))
+    let after = put_slot(b.record, i, x);
+    crate::answered(
+        crate::changes::with_record(b, after),
+        say_slot(i, x, text, at),
+    )
 }
 
-pub(crate) fn slot_line(b: Bench, line: &[u8], text: &mut [u8], at: usize) -> Heard
-    ensures { λ r. ⌜ SlotPut b r ⌝ }
+// A line whose words before the parts are understood.
+pub(crate) fn slot_line(b: Bench, l: Line, line: &[u8], text: &mut [u8], at: usize) -> Heard
+    ensures { λ r. ⌜ SlotPut (gathered l (now (line .entry))) b r ⌝ }
 {
-    let place = number_at(line, 1, 2);
-    let w = slot_in(line);
-    if !(place.understood & w.understood) {
-        return unanswered(b, at);
+    let parts = parts_in(line, l.at);
+    let i = l.values[0] as usize;
+    if i < types::SLOTS {
+        if parts.understood {
+            return put(b, i, slot_of(l, line, parts), text, at);
+        }
     }
-    let slot = w.slot;
-    put_slot(b, place.value as usize, slot, text, at)
+    crate::unanswered(b, at)
 }

@@ -1,50 +1,79 @@
-// Lines that need no record: each is a call of the library, made with octets that are read into a lent room, and its answer as text. A line
-// that is not understood says nothing and leaves the buffer as it was.
-mod args;
-pub mod packets;
-pub mod parts;
+// Lines that leave record and cells alone: calls on packets, arrivals and parts. Each is told by its row of the table, and its octets stand one
+// word's behind the other's.
+mod build;
+mod packets;
+mod parts;
 
+use answers::Row;
+use answers::rows;
+pub use packets::say_packet;
+pub use parts::arrival;
+pub use parts::kind_of;
+pub use parts::pair_at;
+pub use parts::sender_of;
+use types::MOST_OCTETS;
+use words::line::Line;
+use words::table;
 ghost use mathlib.Core.Path.{_≡_};
-ghost use mathlib.Core.Bool.{true, false};
+ghost use Prim.Native.Nat.{_≤_};
+ghost use lib.ListN.{getD};
+ghost use Rattle.lines.specs.Lent.{lentOf, wantedOf};
 
 // A number of octets lent that stands for the right one.
 pub const RIGHT: usize = 65535;
 
-// What a line comes to: where the text ends with its answer; if it is not understood, nothing is written.
-pub struct Said {
-    pub understood: bool,
-    pub end: usize,
-}
-
-// A line that is understood, with its answer up to a place; and one that is not.
-pub fn understood(end: usize) -> Said
-    ensures { λ r. ⌜ r .understood ≡ true ⌝ }
+// How many octets of so many are lent: n, or the right number; all if there are fewer.
+pub fn lent(n: usize, right: usize, all: usize) -> usize
+    ensures { λ r. ⌜ (r ≡ lentOf n right all) × (r ≤ all) ⌝ }
 {
-    Said {
-        understood: true,
-        end: end,
-    }
+    let wanted = wanted(n, right);
+    if wanted < all { wanted } else { all }
 }
 
-pub fn not_understood(at: usize) -> Said
-    ensures { λ r. ⌜ (r .understood ≡ false) × (r .end ≡ at) ⌝ }
+// How many octets are to be lent.
+fn wanted(n: usize, right: usize) -> usize
+    ensures { λ r. ⌜ r ≡ wantedOf n right ⌝ }
 {
-    Said {
-        understood: false,
-        end: at,
-    }
+    if n == RIGHT { right } else { n }
 }
 
-// As many octets of a buffer as are lent: n, or the right number of them; all if there are fewer.
-pub(crate) fn lent(buffer: &mut [u8], n: usize, right: usize) -> &mut [u8] {
-    let wanted = if n == RIGHT { right } else { n };
-    if buffer.len() < wanted {
-        return buffer;
+// The right number for a line that writes to the buffer. A checksum covers a packet and the three octets before a response.
+fn right(row: usize) -> usize {
+    if row < table::BUILD_COMMAND {
+        return MOST_OCTETS + 3;
     }
-    &mut buffer[0..wanted]
+    if row < table::BUILD_CIPHERED_RESPONSE + 1 {
+        return MOST_OCTETS;
+    }
+    if row == table::WRITE_PAGE {
+        types::PAGE_OCTETS
+    } else {
+        types::USER_DATA_OCTETS
+    }
 }
 
 // The octet at a place; the fields of a line that is understood reach so far.
-pub(crate) fn octet(fields: &[u8], i: usize) -> u8 {
+pub fn octet(fields: &[u8], i: usize) -> u8
+    ensures { λ r. ⌜ r ≡ getD (now (fields .entry)) i 0 ⌝ }
+{
     if i < fields.len() { fields[i] } else { 0 }
+}
+
+// Makes what a line asks for at the start of what is lent of the buffer.
+fn made(l: Line, fields: &[u8], out: &mut [u8]) -> Row {
+    if l.row < table::BUILD_COMMAND {
+        let w = packets::sum(l.row, fields, out);
+        return rows::written(rows::OCTETS, w);
+    }
+    if l.row < table::BUILD_CIPHERED_RESPONSE + 1 {
+        let w = build::build(l, fields, out);
+        return rows::written(rows::PACKET, w);
+    }
+    rows::written_part(parts::write(l, fields, out))
+}
+
+// The same in a buffer of which so many octets are lent.
+pub fn make(l: Line, fields: &[u8], size: usize, buffer: &mut [u8]) -> Row {
+    let n = lent(size, right(l.row), buffer.len());
+    made(l, fields, &mut buffer[0..n])
 }

@@ -1,537 +1,533 @@
 -- What the proofs of `words` cite: one law for each return and turn of a loop, over plain variables.
-use Prim.Native.Nat.{ℕ, suc, _+_, _-_, _*_, _/_, _%_, _≤_, _<_}
+use Prim.Native.Nat.{ℕ, zero, suc, _+_, _-_, _*_, _%_, _≤_, _<_}
 use mathlib.Core.Path.{_≡_, refl, sym, ap, _∙_, subst}
-use mathlib.Core.Bool.{Bool, true, false, not, _&&_, and-false}
-use mathlib.Core.List.{List, [], _∷_, _++_, map, append-assoc, append-nil}
+use mathlib.Core.Bool.{Bool, true, false, not, cond, _&&_, _||_}
+use mathlib.Core.List.{List, [], _∷_, _++_, append-assoc, append-nil}
 use native.Mathlib.Omega.{arith}
 use native.Mathlib.Nat.{add-zero}
 use native.Mathlib.Numerals.{add-one}
-use lib.ListN.{length, take, drop, getD, set, length-drop, length-set, length-map, drop-of-length-le}
-use lib.Seq.{drop-cons, take-suc-set, drop-drop, take-all}
-use lib.Dec.{eqb, leb, ltb}
-use mir.Syntax.{w8}
-use mir.Val.{Fits}
+use lib.ListN.{length, take, drop, getD, set, length-drop, length-set, length-append, drop-of-length-le}
+use lib.Seq.{drop-cons, take-suc-set, drop-set-lt, length-take-le}
+use lib.Dec.{eqb, leb}
 use borrow.Author.Needs.{needs}
-use borrow.Author.Tests.{lt-ltb, le-ltb, le-leb, lt-leb, eq-eqb, ne-eqb, leb-true, ltb-true, eqb-true, not-true, not-false}
-use Rattle.octets.specs.Octets.{sameOctets}
+use borrow.Author.Tests.{le-leb, lt-leb, eq-eqb, ne-eqb, leb-true, not-true, not-false}
 use Rattle.octets.specs.Tests.{both, clash}
-use Rattle.words.specs.declared.Octets.{Octets}
+use Rattle.words.specs.declared.Pairs.{Pairs}
+use Rattle.words.specs.Words.{isBlank, skipped, ended, isEmpty, between, isDigit, withDigit, shifted, valueFrom, behindDigits, isHex, hexOf, octetOf, octetsAt, behindOctets, isDash, octetsOf, behindWord, Counted, Paired}
+use Rattle.words.specs.Table.{keys, rowFrom, rowOf, mosts, mostOf}
 use Rattle.words.specs.declared.Number.{Number}
-use Rattle.words.specs.Words.{isBlank, goesOn, leading, past, afterRun, firstWord, behind, wordIn, noWord, between, small, isName}
-use Rattle.words.specs.Says.{digitValue, digitLimit, shifted, allDigits, valueFrom, isNumber, numberIn, isFixed, fixedIn, octetsIn, fitPairs, arePairs, isOctets, Reads}
+use Rattle.words.specs.declared.line.Word.{Word}
+use Rattle.words.specs.declared.line.Line.{Line}
+use Rattle.words.specs.Table.{keyOf, allSorts}
+use Rattle.words.specs.Line as rule
+use Rattle.words.specs.Line.{Read, numberRead, octetsRead, wordRead, Gathered, begun, lineRead, silent, wordOf, gathered, Inside, Reads}
 
--- ---- runs
-pub no-blank : (x : ℕ) → 32 < x → false ≡ isBlank x
-no-blank x l =
-    rw (ne-eqb x 32 (λ e. omega (arith, e)), ne-eqb x 9 (λ e. omega (arith, e)), ne-eqb x 13 (λ e. omega (arith, e)))
+-- ---- blanks
+pub record Skipping (line : List ℕ) (from at : ℕ) : Type 0 where
+  pub is : skipped (drop at line) ≡ skipped (drop from line)
+  pub past : from ≤ at
+  pub inside : at ≤ length line
 
-pub goes-blank : (blanks b : Bool) (x : ℕ) → blanks ≡ true → b ≡ isBlank x → b ≡ goesOn blanks x
-goes-blank blanks b x e is = rw (e, is)
+module _ (line : List ℕ) (from : ℕ) where
+  pub skip-none : from ≤ length line → Skipping line from from
+  skip-none l = record { is = refl; past = omega arith; inside = l }
 
-pub goes-other : (blanks b : Bool) (x : ℕ) → blanks ≡ false → b ≡ isBlank x → not b ≡ goesOn blanks x
-goes-other blanks b x e is = rw (e, is)
+  module _ (at : ℕ) (u : Skipping line from at) where
+    pub skip-out : length line ≤ at → drop at line ≡ skipped (drop from line)
+    unfolding skipped
+    skip-out l = sym (sym (u .is) ∙ rw (drop-of-length-le line l)) ∙ refl
 
--- the run from a place on ends where that from an earlier place ends
-pub record Running (blanks : Bool) (line : List ℕ) (from at : ℕ) : Type 0 where
-  pub start : from ≤ at
-  pub end : at ≤ length line
-  pub is : past blanks line from ≡ past blanks line at
+    module _ (more : at < length line) (b : Bool) (is : b ≡ isBlank (getD line at 0)) where
+      pub skip-ends : not b ≡ true → drop at line ≡ skipped (drop from line)
+      unfolding skipped
+      skip-ends e = rw (drop-cons line at 0) (sym (sym (u .is) ∙ rw (drop-cons line at 0, ← is, not-true b e)))
 
-module _ (blanks : Bool) (line : List ℕ) (from : ℕ) where
-  pub running-none : from ≤ length line → Running blanks line from from
-  running-none l = record { start = omega arith; end = l; is = refl }
-
-  module _ (at : ℕ) (u : Running blanks line from at) where
-    pub run-out : length line ≤ at → at ≡ past blanks line from
-    unfolding leading
-    run-out l = sym (u .is ∙ rw (drop-of-length-le line l, add-zero))
-
-    module _ (more : at < length line) (g : Bool) (is : g ≡ goesOn blanks (getD line at 0)) where
-      pub run-ends : g ≡ false → at ≡ past blanks line from
-      unfolding leading
-      run-ends e = sym (u .is ∙ rw (drop-cons line at 0, ← is, e, add-zero))
-
-      pub run-goes : g ≡ true → Running blanks line from (at + 1)
-      unfolding leading
-      run-goes e =
+      pub skip-more : not b ≡ false → Skipping line from (at + 1)
+      unfolding skipped
+      skip-more e =
+          let q : skipped (drop at line) ≡ skipped (drop (suc at) line) = rw (drop-cons line at 0, ← is, not-false b e) in
           record {
-            start = omega (arith, u .start);
-            end = omega arith;
-            is = u .is ∙ rw (drop-cons line at 0, ← is, e, add-one at) (omega arith);
+            is = rw add-one (sym q ∙ u .is);
+            past = omega (arith, u .past);
+            inside = omega arith;
           }
 
--- what is left of a line behind k words begins at a place
-pub record Passed (line : List ℕ) (k at : ℕ) : Type 0 where
+-- where a word ends
+module _ (line : List ℕ) (at : ℕ) where
+  pub end-blank : (b : Bool) → at < length line → b ≡ isBlank (getD line at 0) → b ≡ ended (drop at line)
+  unfolding ended
+  end-blank b l is = rw (drop-cons line at 0) is
+
+  pub last-not : at < length line → false ≡ isEmpty (drop at line)
+  unfolding isEmpty
+  last-not l = rw (drop-cons line at 0)
+
+  pub last-is : length line ≤ at → true ≡ isEmpty (drop at line)
+  unfolding isEmpty
+  last-is l = rw (drop-of-length-le line l)
+
+  pub last-no : (b : Bool) → b ≡ true → b ≡ false → at < length line
+  last-no b e f = absurd (clash b e f)
+
+  pub end-line : length line ≤ at → true ≡ ended (drop at line)
+  unfolding ended
+  end-line l = rw (drop-of-length-le line l)
+
+module _ (line : List ℕ) (at : ℕ) (is : drop at line ≡ skipped line) where
+  pub comment-told : at < length line → eqb (getD line at 0) 35 ≡ silent line
+  unfolding rule.isComment
+  comment-told l = rw (← is, drop-cons line at 0)
+
+  pub comment-none : length line ≤ at → true ≡ silent line
+  unfolding rule.isComment
+  comment-none l = rw (← is, drop-of-length-le line l)
+
+-- ---- names and numbers
+module _ (name : Bool) (n x : ℕ) where
+  pub letter-more : name ≡ true → n * 32 + x % 32 ≡ withDigit name n x
+  letter-more e = rw e
+
+  pub figure-more : name ≡ false → n * 10 + x % 16 ≡ withDigit name n x
+  figure-more e = rw e
+
+  module _ (most v : ℕ) (is : v ≡ withDigit name n x) where
+    pub shifted-low : v ≤ most → v ≡ shifted name most n x
+    shifted-low l = rw (← is, le-leb v most l)
+
+    pub shifted-high : most < v → most + 1 ≡ shifted name most n x
+    shifted-high l = rw (← is, lt-leb v most l)
+
+pub record Counting (name : Bool) (most : ℕ) (line : List ℕ) (from value at : ℕ) : Type 0 where
+  pub is : valueFrom name most value (drop at line) ≡ valueFrom name most 0 (drop from line)
+  pub text : behindDigits name (drop at line) ≡ behindDigits name (drop from line)
+  pub small : value ≤ 1099511627776
+  pub past : from ≤ at
   pub inside : at ≤ length line
-  pub is : drop at line ≡ behind line k
 
-after-run : (blanks : Bool) (line : List ℕ) (at : ℕ) → drop (past blanks line at) line ≡ afterRun blanks (drop at line)
-after-run blanks line at = rw drop-drop
+module _ (name : Bool) (most : ℕ) (line : List ℕ) (from : ℕ) where
+  pub count-none : from ≤ length line → Counting name most line from 0 from
+  count-none l = record { is = refl; text = refl; small = omega arith; past = omega arith; inside = l }
 
-module _ (line : List ℕ) where
-  pub passed-none : Passed line 0 0
-  unfolding behind
-  passed-none = record { inside = omega arith; is = refl }
+  module _ (value at : ℕ) (u : Counting name most line from value at) where
+    pub count-small : value ≤ 1099511627776
+    count-small = u .small
 
-  pub passed-more : (k at s e : ℕ) → Passed line k at → s ≡ past true line at → e ≡ past false line s → e ≤ length line → Passed line (k + 1) e
-  unfolding behind
-  passed-more k at s e p f g l =
-      record {
-        inside = l;
-        is = rw (add-one, g, after-run false line s, f, after-run true line at, p .is);
-      }
-
-  pub passed-all : (n k at : ℕ) → Passed line k at → k ≤ n → n ≤ k → take (length line - at) (drop at line) ≡ behind line n
-  passed-all n k at p l m =
-      let e : n ≡ k = omega arith in rw (e, ← p .is) (take-all (length line - at) (drop at line) (simp length-drop (omega arith)))
-
-  pub first-told : (s e : ℕ) → s ≡ past true line 0 → e ≡ past false line s → take (e - s) (drop s line) ≡ firstWord line
-  first-told s e f g = let b : e - s ≡ leading false (drop s line) = omega (arith, g) in
-      let z : s ≡ leading true line = omega (arith, f) in rw (b, z)
-
-pub word-told : (line t w : List ℕ) (i : ℕ) → t ≡ behind line i → w ≡ firstWord t → w ≡ wordIn line i
-word-told line t w i e f = f ∙ ap firstWord e
-
--- ---- letters and digits
-module _ (t : Bool) (low high x : ℕ) (is : t ≡ between low high x) (holds : t ≡ true) where
-  pub at-least : low ≤ x
-  at-least = leb-true low x (both (leb low x) (leb x high) (sym is ∙ holds) .0)
-
-  pub at-most : x ≤ high
-  at-most = leb-true x high (both (leb low x) (leb x high) (sym is ∙ holds) .1)
-
-pub small-letter : (t : Bool) (x : ℕ) → t ≡ between 65 90 x → t ≡ true → x + 32 ≡ small x
-unfolding small
-small-letter t x is e = rw (← is, e)
-
-pub small-other : (t : Bool) (x : ℕ) → t ≡ between 65 90 x → t ≡ false → x ≡ small x
-unfolding small
-small-other t x is e = rw (← is, e)
-
-pub letter-fits : (t : Bool) (x : ℕ) → t ≡ between 65 90 x → t ≡ true → Fits w8 (x + 32)
-letter-fits t x is e = omega (arith, at-most t 65 90 x is e)
-
--- the value of a digit, class by class
-module _ (t : Bool) (x : ℕ) (is : t ≡ between 48 57 x) where
-  pub figure-low : t ≡ true → 48 ≤ x
-  figure-low e = at-least t 48 57 x is e
-
-  pub value-figure : t ≡ true → x - 48 ≡ digitValue x
-  unfolding digitValue
-  value-figure e = rw (← is, e)
-
-  pub figure-high : t ≡ true → x - 48 ≤ 16
-  figure-high e = omega (arith, at-most t 48 57 x is e)
-
-  module _ (f : t ≡ false) (u : Bool) (is′ : u ≡ between 65 70 x) where
-    pub capital-low : u ≡ true → 55 ≤ x
-    capital-low e = omega (arith, at-least u 65 70 x is′ e)
-
-    pub value-capital : u ≡ true → x - 55 ≡ digitValue x
-    unfolding digitValue
-    value-capital e = rw (← is, f, ← is′, e)
-
-    pub capital-high : u ≡ true → x - 55 ≤ 16
-    capital-high e = omega (arith, at-most u 65 70 x is′ e)
-
-    module _ (g : u ≡ false) (v : Bool) (is″ : v ≡ between 97 102 x) where
-      pub small-low : v ≡ true → 87 ≤ x
-      small-low e = omega (arith, at-least v 97 102 x is″ e)
-
-      pub value-small : v ≡ true → x - 87 ≡ digitValue x
-      unfolding digitValue
-      value-small e = rw (← is, f, ← is′, g, ← is″, e)
-
-      pub small-high : v ≡ true → x - 87 ≤ 16
-      small-high e = omega (arith, at-most v 97 102 x is″ e)
-
-      pub value-none : v ≡ false → 16 ≡ digitValue x
-      unfolding digitValue
-      value-none e = rw (← is, f, ← is′, g, ← is″, e)
-
--- ---- names
-lengths-differ : (a b : List ℕ) → (length a ≡ length b → ⊥) → sameOctets a b ≡ false
-unfolding sameOctets
-lengths-differ [] [] f = absurd (f refl)
-lengths-differ [] (y ∷ b) f = refl
-lengths-differ (x ∷ a) [] f = refl
-lengths-differ (x ∷ a) (y ∷ b) f = rw (lengths-differ a b (λ e. f (ap suc e)), and-false)
-
--- up to i the letters are the name's
-pub record Named (w name : List ℕ) (i : ℕ) : Type 0 where
-  pub long : length w ≡ length name
-  pub some : i ≤ length w
-  pub is : isName w name ≡ isName (drop i w) (drop i name)
-
-module _ (w name : List ℕ) where
-  pub other-length : (length w ≡ length name → ⊥) → false ≡ isName w name
-  other-length f = sym (lengths-differ (map small w) name (λ e. f (sym (length-map w small) ∙ e)))
-
-  pub named-none : length w ≡ length name → Named w name 0
-  named-none e = record { long = e; some = omega arith; is = refl }
-
-  module _ (i : ℕ) (n : Named w name i) where
-    pub name-inside : i < length w → i < length name
-    name-inside l = omega (arith, n .long)
-
-    module _ (more : i < length w) (s : ℕ) (letter : s ≡ small (getD w i 0)) where
-      both-drop : isName w name ≡ (eqb s (getD name i 0) && isName (drop (suc i) w) (drop (suc i) name))
-      unfolding sameOctets
-      both-drop = n .is ∙ rw (drop-cons w i 0 more, drop-cons name i 0 (omega (arith, n .long)), letter)
-
-      pub named-other : (s ≡ getD name i 0 → ⊥) → false ≡ isName w name
-      named-other f = sym (both-drop ∙ rw (ne-eqb s (getD name i 0) f))
-
-      pub named-more : s ≡ getD name i 0 → Named w name (i + 1)
-      named-more e = record { long = n .long; some = omega arith; is = both-drop ∙ rw (eq-eqb s (getD name i 0) e, add-one) }
-
-    pub named-all : length w ≤ i → true ≡ isName w name
-    unfolding sameOctets
-    named-all done = sym (n .is ∙ rw (drop-of-length-le w done, drop-of-length-le name (subst (λ (k : ℕ). k ≤ i) (n .long) done)))
-
--- ---- numbers
-pub digit-more : (hex : Bool) (n d : ℕ) → hex ≡ true → n * 16 + d ≡ shifted hex n d
-digit-more hex n d e = rw e
-
-pub figure-more : (hex : Bool) (n d : ℕ) → hex ≡ false → n * 10 + d ≡ shifted hex n d
-figure-more hex n d e = rw e
-
--- digits more make no number less
-shifted-grows : (hex : Bool) (n d : ℕ) → n ≤ shifted hex n d
-shifted-grows true n d = omega arith
-shifted-grows false n d = omega arith
-
-value-grows : (hex : Bool) (n : ℕ) (w : List ℕ) → n ≤ valueFrom hex n w
-unfolding valueFrom
-value-grows hex n [] = omega arith
-value-grows hex n (x ∷ w) =
-    omega (arith, value-grows hex (shifted hex n (digitValue x)) w, shifted-grows hex n (digitValue x))
-
-value-step : (hex : Bool) (n i : ℕ) (w : List ℕ) → i < length w
-    → valueFrom hex n (drop i w) ≡ valueFrom hex (shifted hex n (digitValue (getD w i 0))) (drop (suc i) w)
-unfolding valueFrom
-value-step hex n i w l = rw (drop-cons w i 0)
-
--- what is known after i digits of a word
-pub record Counting (hex : Bool) (most : ℕ) (w : List ℕ) (i value : ℕ) : Type 0 where
-  pub filled : (length w ≡ 0 → ⊥)
-  pub some : i ≤ length w
-  pub small : value ≤ most
-  pub digits : allDigits hex w ≡ allDigits hex (drop i w)
-  pub is : valueFrom hex 0 w ≡ valueFrom hex value (drop i w)
-
-module _ (hex : Bool) (most : ℕ) (w : List ℕ) where
-  module _ (r : Number) where
-    none-value : isNumber hex most w ≡ false → r .value ≡ 0 → r .value ≡ numberIn hex most w
-    none-value e z = rw e z
-
-    pub no-digit : r .understood ≡ false → length w ≡ 0 → r .understood ≡ isNumber hex most w
-    no-digit z e = rw (eq-eqb (length w) 0 e) z
-
-    pub no-digit-value : r .value ≡ 0 → length w ≡ 0 → r .value ≡ numberIn hex most w
-    no-digit-value z e = none-value (rw (eq-eqb (length w) 0 e)) z
-
-    pub none-small : r .value ≡ 0 → r .value ≤ most
-    none-small z = omega (arith, z)
-
-    module _ (i value : ℕ) (k : Counting hex most w i value) (more : i < length w) (d : ℕ) (is : d ≡ digitValue (getD w i 0)) where
-      module _ (n : ℕ) (e : n ≡ digitLimit hex) (l : n ≤ d) where
-        wrong : isNumber hex most w ≡ false
-        unfolding allDigits
-        wrong =
-            let none : allDigits hex w ≡ false = k .digits ∙ rw (drop-cons w i 0, ← is, ← e, le-ltb d n l) in
-            rw (ne-eqb (length w) 0 (k .filled), none)
-
-        pub not-digit : r .understood ≡ false → r .understood ≡ isNumber hex most w
-        not-digit z = rw wrong z
-
-        pub not-digit-value : r .value ≡ 0 → r .value ≡ numberIn hex most w
-        not-digit-value = none-value wrong
-
-      module _ (v : ℕ) (e : v ≡ shifted hex value d) (l : most < v) where
-        large : isNumber hex most w ≡ false
-        large =
-            let q : valueFrom hex 0 w ≡ valueFrom hex v (drop (suc i) w) = k .is ∙ value-step hex value i w more ∙ rw (e, is) in
-            let m : most < valueFrom hex 0 w = omega (arith, q, value-grows hex v (drop (suc i) w)) in
-            rw (ne-eqb (length w) 0 (k .filled), lt-leb (valueFrom hex 0 w) most m, and-false)
-
-        pub too-large : r .understood ≡ false → r .understood ≡ isNumber hex most w
-        too-large z = rw large z
-
-        pub too-large-value : r .value ≡ 0 → r .value ≡ numberIn hex most w
-        too-large-value = none-value large
-
-  pub counting-none : (length w ≡ 0 → ⊥) → Counting hex most w 0 0
-  counting-none f = record { filled = f; some = omega arith; small = omega arith; digits = refl; is = refl }
-
-  module _ (i value : ℕ) (k : Counting hex most w i value) where
-    pub counting-small : most ≤ 4294967295 → value ≤ 4294967295
-    counting-small l = omega (arith, k .small)
-
-    pub counting-more : (d n v : ℕ) → i < length w → d ≡ digitValue (getD w i 0) → n ≡ digitLimit hex → d < n
-        → v ≡ shifted hex value d → v ≤ most → Counting hex most w (i + 1) v
-    unfolding allDigits valueFrom
-    counting-more d n v more is e l f m =
+    pub count-all : length line ≤ at → Counted name most from line (record { value = value; at = at })
+    unfolding valueFrom behindDigits
+    count-all l =
+        let v : valueFrom name most value (drop at line) ≡ value = rw (drop-of-length-le line l) in
+        let t : behindDigits name (drop at line) ≡ drop at line = rw (drop-of-length-le line l) in
         record {
-          filled = k .filled;
-          some = omega arith;
-          small = m;
-          digits = k .digits ∙ rw (add-one, drop-cons w i 0, ← is, ← e, lt-ltb d n l);
-          is = k .is ∙ value-step hex value i w more ∙ rw (add-one, f, is);
+          is = sym v ∙ u .is;
+          text = sym t ∙ u .text;
+          past = u .past;
+          inside = u .inside;
         }
 
-    module _ (done : length w ≤ i) where
-      right : (isNumber hex most w ≡ true) × (valueFrom hex 0 w ≡ value)
-      unfolding allDigits valueFrom
-      right =
-          let all : allDigits hex w ≡ true = k .digits ∙ rw (drop-of-length-le w done) in
-          let v : valueFrom hex 0 w ≡ value = k .is ∙ rw (drop-of-length-le w done) in
-          (rw (ne-eqb (length w) 0 (k .filled), all, v, le-leb value most (k .small)), v)
+    module _ (more : at < length line) (b : Bool) (is : b ≡ isDigit name (getD line at 0)) where
+      pub count-ends : not b ≡ true → Counted name most from line (record { value = value; at = at })
+      unfolding valueFrom behindDigits
+      count-ends e =
+          let v : valueFrom name most value (drop at line) ≡ value = rw (drop-cons line at 0, ← is, not-true b e) in
+          let t : behindDigits name (drop at line) ≡ drop at line = rw (drop-cons line at 0, ← is, not-true b e) in
+          record { is = sym v ∙ u .is; text = sym t ∙ u .text; past = u .past; inside = u .inside }
 
-      pub counted-all : true ≡ isNumber hex most w
-      counted-all = sym (right .0)
-
-      pub counted-value : value ≡ numberIn hex most w
-      counted-value = rw (right .0) (sym (right .1))
-
--- so many digits
-module _ (digits most : ℕ) (w : List ℕ) (r : Number) where
-  pub other-digits : (length w ≡ digits → ⊥) → r .understood ≡ false → r .understood ≡ isFixed digits most w
-  other-digits f z = rw (ne-eqb (length w) digits f) z
-
-  pub other-value : (length w ≡ digits → ⊥) → r .value ≡ 0 → r .value ≡ fixedIn digits most w
-  other-value f z = rw (ne-eqb (length w) digits f) z
-
-  pub as-digits : length w ≡ digits → r .understood ≡ isNumber true most w → r .understood ≡ isFixed digits most w
-  as-digits e t = rw (eq-eqb (length w) digits e) t
-
-  pub as-value : length w ≡ digits → r .value ≡ numberIn true most w → r .value ≡ fixedIn digits most w
-  as-value e t = rw (eq-eqb (length w) digits e) t
+      pub count-more : (v : ℕ) → not b ≡ false → v ≡ shifted name most value (getD line at 0) → v ≤ 1099511627776
+          → Counting name most line from v (at + 1)
+      unfolding valueFrom behindDigits
+      count-more v e f l =
+          let q : valueFrom name most value (drop at line) ≡ valueFrom name most v (drop (suc at) line) =
+          rw (drop-cons line at 0, ← is, not-false b e, f) in
+          let t : behindDigits name (drop at line) ≡ behindDigits name (drop (suc at) line) = rw (drop-cons line at 0, ← is, not-false b e) in
+          record {
+            is = rw add-one (sym q ∙ u .is);
+            text = rw add-one (sym t ∙ u .text);
+            small = l;
+            past = omega (arith, u .past);
+            inside = omega arith;
+          }
 
 -- ---- octets
-from-pair : (w : List ℕ) (i : ℕ) → 2 * i + 1 < length w → drop (2 * i) w ≡ getD w (2 * i) 0 ∷ getD w (2 * i + 1) 0 ∷ drop (2 * (i + 1)) w
-from-pair w i l =
-    let n : 2 * (i + 1) ≡ suc (suc (2 * i)) = omega arith in
-    let m : 2 * i + 1 ≡ suc (2 * i) = omega arith in
-    rw (n, m, drop-cons w (2 * i) 0 (omega arith), drop-cons w (suc (2 * i)) 0 (omega arith))
+short : (w : List ℕ) → length w ≤ 1 → (octetsAt w ≡ []) × (behindOctets w ≡ w)
+unfolding octetsAt behindOctets
+short [] l = (refl, refl)
+short (a ∷ []) l = (refl, refl)
+short (a ∷ b ∷ w) l = absurd (omega arith)
+
+hex-small : (x : ℕ) → isHex x ≡ true → hexOf x < 16
+hex-small x e = go (between 48 57 x) (between 65 70 x) (between 97 102 x) refl refl refl e
+  where
+    low : (l h : ℕ) → between l h x ≡ true → (l ≤ x) × (x ≤ h)
+    low l h e = (leb-true l x (both (leb l x) (leb x h) e .0), leb-true x h (both (leb l x) (leb x h) e .1))
+
+    go : (a b c : Bool) → a ≡ between 48 57 x → b ≡ between 65 70 x → c ≡ between 97 102 x → (a || b || c) ≡ true → hexOf x < 16
+    go true b c p q r e = let (l, m) = low 48 57 (sym p) in omega arith
+    go false true c p q r e = let (l, m) = low 65 70 (sym q) in omega arith
+    go false false true p q r e = let (l, m) = low 97 102 (sym r) in omega arith
+    go false false false p q r e = let z : _≡_ {A = ℕ} 0 1 = cc in absurd (omega arith)
+
+two-more : (line : List ℕ) (at : ℕ) → at + 1 < length line → drop at line ≡ getD line at 0 ∷ getD line (at + 1) 0 ∷ drop (at + 2) line
+two-more line at l =
+    let n : at + 2 ≡ suc (suc at) = omega arith in
+    rw (n, add-one, drop-cons line at 0 (omega arith), drop-cons line (suc at) 0 (omega arith))
+
+-- what was read and what is to come are together the octets that there are
+pub record Pairing (line₀ : List ℕ) (from end : ℕ) (line : List ℕ) (at to : ℕ) : Type 0 where
+  pub is : take to line ++ octetsAt (drop at line) ≡ take end line₀ ++ octetsAt (drop from line₀)
+  pub many : to + length (octetsAt (drop at line)) ≡ end + length (octetsAt (drop from line₀))
+  pub text : behindOctets (drop at line) ≡ behindOctets (drop from line₀)
+  pub past : (end ≤ to) × (to ≤ at)
+  pub inside : at ≤ length line₀
+  pub long : length line ≡ length line₀
+
+module _ (line₀ : List ℕ) (from end : ℕ) where
+  pub pair-none : end ≤ from → from ≤ length line₀ → Pairing line₀ from end line₀ from end
+  pair-none l m = record { is = refl; many = refl; text = refl; past = (omega arith, l); inside = m; long = refl }
+
+  module _ (line : List ℕ) (at to : ℕ) (u : Pairing line₀ from end line at to) where
+    pub pair-started : end ≤ to
+    pair-started = u .past .0
+
+    pub pair-long : length line ≡ length line₀
+    pair-long = u .long
+
+    module _ (none : octetsAt (drop at line) ≡ []) (all : behindOctets (drop at line) ≡ drop at line) where
+      pair-end : Paired (octetsAt (drop from line₀)) (behindOctets (drop from line₀)) end line₀ (record { count = to - end; at = at }) line
+      pair-end =
+          let n : end + (to - end) ≡ to = omega (arith, u .past .0) in
+          let m : length (octetsAt (drop at line)) ≡ 0 = rw none in
+          record {
+            octets′ = rw n (sym (sym (u .is) ∙ rw (none, append-nil)));
+            many = omega (arith, u .many);
+            text′ = sym all ∙ u .text;
+            inside = (rw n (u .past .1), u .inside);
+            long = u .long;
+          }
+
+    pub pair-all : length line ≤ at + 1
+        → Paired (octetsAt (drop from line₀)) (behindOctets (drop from line₀)) end line₀ (record { count = to - end; at = at }) line
+    pair-all l =
+        let m : length (drop at line) ≤ 1 = simp length-drop (omega arith) in
+        pair-end (short (drop at line) m .0) (short (drop at line) m .1)
+
+    module _ (more : at + 1 < length line) where
+      pub pair-at : at < length line
+      pair-at = omega arith
+
+      pub pair-to : to < length line
+      pair-to = omega (arith, u .past .1)
+
+      pub pair-less : length line₀ - (at + 2) < length line₀ - at
+      pair-less = omega (arith, u .long)
+
+      module _ (x : ℕ) (is : x ≡ octetOf (getD line at 0) (getD line (at + 1) 0)) where
+        pub pair-ends : x ≡ 256
+            → Paired (octetsAt (drop from line₀)) (behindOctets (drop from line₀)) end line₀ (record { count = to - end; at = at }) line
+        unfolding octetsAt behindOctets
+        pair-ends e = pair-end (rw (two-more line at more, ← is, eq-eqb x 256 e)) (rw (two-more line at more, ← is, eq-eqb x 256 e))
+
+        pub pair-more : (x ≡ 256 → ⊥) → Pairing line₀ from end (set line to x) (at + 2) (to + 1)
+        unfolding octetsAt behindOctets
+        pair-more f =
+            let d : drop (at + 2) (set line to x) ≡ drop (at + 2) line = drop-set-lt (at + 2) line to x (omega (arith, u .past .1)) in
+            let o : octetsAt (drop at line) ≡ x ∷ octetsAt (drop (at + 2) line) = rw (two-more line at more, ← is, ne-eqb x 256 f) in
+            let t : behindOctets (drop at line) ≡ behindOctets (drop (at + 2) line) = rw (two-more line at more, ← is, ne-eqb x 256 f) in
+            let n : length (octetsAt (drop at line)) ≡ length (octetsAt (drop (at + 2) line)) + 1 = rw (o, add-one) in
+            record {
+              is =
+                  rw (d, add-one, take-suc-set line to x (omega (arith, u .past .1)), append-assoc)
+                  (sym (ap (λ (w : List ℕ). take to line ++ w) o) ∙ u .is);
+              many = rw d (omega (arith, u .many));
+              text = rw d (sym t ∙ u .text);
+              past = (omega (arith, u .past .0), omega (arith, u .past .1));
+              inside = omega (arith, u .long);
+              long = rw length-set (u .long);
+            }
 
 -- two digits make an octet
-module _ (h l : ℕ) (e : not (ltb h 16 && ltb l 16) ≡ false) where
-  digits-hold : (ltb h 16 ≡ true) × (ltb l 16 ≡ true)
-  digits-hold = both (ltb h 16) (ltb l 16) (not-false (ltb h 16 && ltb l 16) e)
+module _ (a b : ℕ) (f g : Bool) (p : f ≡ isHex a) (q : g ≡ isHex b) where
+  pub no-octet : f && g ≡ false → 256 ≡ octetOf a b
+  unfolding octetOf
+  no-octet e = rw (← p, ← q, e)
 
-  pub pair-fits : Fits w8 (h * 16)
-  pair-fits = omega (arith, ltb-true h 16 (digits-hold .0))
+  module _ (e : f && g ≡ true) (h l : ℕ) (x : h ≡ hexOf a) (y : l ≡ hexOf b) where
+    pub one-octet : h * 16 + l ≡ octetOf a b
+    unfolding octetOf
+    one-octet = rw (← p, ← q, e, x, y)
 
-  pub pair-sum : Fits w8 (h * 16 + l)
-  pair-sum = omega (arith, ltb-true h 16 (digits-hold .0), ltb-true l 16 (digits-hold .1))
+    pub octet-small : h * 16 + l ≤ 256
+    octet-small = let (s, t) = both f g e in omega (arith, x, y, hex-small a (sym p ∙ s), hex-small b (sym q ∙ t))
 
--- what stands in a room d after i octets of a word were read
-pub record Paired (w d : List ℕ) (i : ℕ) (room : List ℕ) : Type 0 where
-  pub fits : fitPairs (length d) w ≡ true
-  pub even : length w % 2 ≡ 0
-  pub enough : length w / 2 ≤ length d
-  pub some : i ≤ length w / 2
-  pub long : length room ≡ length d
-  pub digits : allDigits true w ≡ allDigits true (drop (2 * i) w)
-  pub is : octetsIn w ≡ take i room ++ octetsIn (drop (2 * i) w)
+pub hex-fits : (h a : ℕ) → h ≡ hexOf a → a < 256 → h ≤ 42
+hex-fits h a e l = omega (arith, e)
 
-module _ (w d : List ℕ) where
-  pub no-pairs : (t : Bool) (r : Octets) → t ≡ fitPairs (length d) w → not t ≡ true → r .understood ≡ false
-      → r .understood ≡ arePairs (length d) w
-  no-pairs t r is e z = rw (← is, not-true t e) z
+-- `-`
+module _ (line : List ℕ) (from end : ℕ) (there : from < length line) where
+  dash-at : isDash (drop from line) ≡ eqb (getD line from 0) 45
+  unfolding isDash
+  dash-at = rw (drop-cons line from 0)
 
-  pub none-read : (r : Octets) (room : List ℕ) → length room ≡ length d → r .understood ≡ false → r .count ≡ 0 → Reads r w d room
-  none-read r room l z y =
+  pub dash-read : end ≤ from → getD line from 0 ≡ 45
+      → Paired (octetsOf (drop from line)) (behindWord (drop from line)) end line (record { count = 0; at = from + 1 }) line
+  dash-read l e =
+      let d : isDash (drop from line) ≡ true = dash-at ∙ eq-eqb (getD line from 0) 45 e in
       record {
-        long = l;
-        inside = omega (arith, y);
-        are = λ e. absurd (let z : _≡_ {A = ℕ} 0 1 = cc in omega arith);
-      }
-
-  pub paired-none : (t : Bool) → t ≡ fitPairs (length d) w → not t ≡ false → Paired w d 0 d
-  paired-none t is e =
-      let f : fitPairs (length d) w ≡ true = sym is ∙ not-false t e in
-      let g = both (not (eqb (length w) 0) && eqb (length w % 2) 0) (leb (length w / 2) (length d)) f in
-      let h = both (not (eqb (length w) 0)) (eqb (length w % 2) 0) (g .0) in
-      record {
-        fits = f;
-        even = eqb-true (length w % 2) 0 (h .1);
-        enough = leb-true (length w / 2) (length d) (g .1);
-        some = omega arith;
+        octets′ = rw (add-zero, d, append-nil);
+        many = rw d;
+        text′ = rw d (rw (drop-cons line from 0, add-one));
+        inside = (omega arith, omega arith);
         long = refl;
-        digits = refl;
-        is = refl;
       }
 
-  module _ (i : ℕ) (room : List ℕ) (u : Paired w d i room) where
-    module _ (more : i < length w / 2) where
-      pub pair-high : 2 * i < length w
-      pair-high = omega arith
+  pub pairs-read : (r : Pairs) (after : List ℕ) → (getD line from 0 ≡ 45 → ⊥)
+      → Paired (octetsAt (drop from line)) (behindOctets (drop from line)) end line r after
+      → Paired (octetsOf (drop from line)) (behindWord (drop from line)) end line r after
+  pairs-read r after f h = rw (dash-at ∙ ne-eqb (getD line from 0) 45 f) h
 
-      pub pair-low : 2 * i + 1 < length w
-      pair-low = omega arith
+-- ---- the table
+pub record Finding (key i : ℕ) : Type 0 where
+  pub is : rowFrom key i (drop i keys) ≡ rowOf key
+  pub past : 1 ≤ i
+  pub inside : i ≤ 50
 
-      pub pair-place : i < length room
-      pair-place = omega (arith, u .long, u .enough)
+module _ (key : ℕ) where
+  pub find-none : Finding key 1
+  find-none = record { is = refl; past = omega arith; inside = omega arith }
 
-      module _ (h l : ℕ) (high : h ≡ digitValue (getD w (2 * i) 0)) (low : l ≡ digitValue (getD w (2 * i + 1) 0)) where
-        pair-digits : allDigits true w ≡ (ltb h 16 && (ltb l 16 && allDigits true (drop (2 * (i + 1)) w)))
-        unfolding allDigits
-        pair-digits = u .digits ∙ rw (from-pair w i (omega arith), high, low)
+  module _ (i : ℕ) (u : Finding key i) where
+    pub find-out : 50 ≤ i → 0 ≡ rowOf key
+    unfolding rowFrom
+    find-out l = let e : i ≡ 50 = omega (arith, u .inside) in subst (λ (k : ℕ). rowFrom key k (drop k keys) ≡ rowOf key) e (u .is)
 
-        pub no-pair : (r : Octets) → not (ltb h 16 && ltb l 16) ≡ true → r .understood ≡ false → r .understood ≡ arePairs (length d) w
-        no-pair r e z = z ∙ sym (rw (u .fits) (pair-digits ∙ go (ltb h 16) (ltb l 16) (not-true (ltb h 16 && ltb l 16) e)))
-          where
-            go : (a b : Bool) → (a && b) ≡ false → (a && (b && allDigits true (drop (2 * (i + 1)) w))) ≡ false
-            go true true e = absurd (clash true refl e)
-            go true false e = refl
-            go false b e = refl
+    module _ (more : i < 50) where
+      next : rowFrom key i (drop i keys) ≡ cond (eqb (getD keys i 0) key) i (rowFrom key (i + 1) (drop (suc i) keys))
+      unfolding rowFrom
+      next = rw (drop-cons keys i 0 more)
 
-        module _ (e : not (ltb h 16 && ltb l 16) ≡ false) where
-          pair-octets : octetsIn (drop (2 * i) w) ≡ (h * 16 + l) ∷ octetsIn (drop (2 * (i + 1)) w)
-          unfolding octetsIn
-          pair-octets = rw (from-pair w i (omega arith), high, low)
+      pub find-here : (k : ℕ) → k ≡ getD keys i 0 → k ≡ key → i ≡ rowOf key
+      find-here k is e = sym (sym (u .is) ∙ next ∙ rw (← is, eq-eqb k key e))
 
-          pub paired-more : Paired w d (i + 1) (set room i (h * 16 + l))
-          paired-more =
-              record {
-                fits = u .fits;
-                even = u .even;
-                enough = u .enough;
-                some = omega arith;
-                long = rw length-set (u .long);
-                digits = pair-digits ∙ rw (digits-hold h l e .0, digits-hold h l e .1);
-                is =
-                    u .is ∙ ap (λ (l : List ℕ). take i room ++ l) pair-octets
-                    ∙ rw (add-one, take-suc-set room i (h * 16 + l) (omega (arith, u .long, u .enough)), append-assoc);
-              }
+      pub find-more : (k : ℕ) → k ≡ getD keys i 0 → (k ≡ key → ⊥) → Finding key (i + 1)
+      find-more k is f =
+          record {
+            is = rw add-one (sym (sym (u .is) ∙ next ∙ rw (← is, ne-eqb k key f, add-one)));
+            past = omega arith;
+            inside = omega arith;
+          }
 
-    module _ (done : length w / 2 ≤ i) where
-      end : drop (2 * i) w ≡ []
-      end = let l : length w ≤ 2 * i = omega (arith, u .even) in drop-of-length-le w l
+-- a number and what is added to it stay small
+most-small : (i : ℕ) → i < 8 → getD mosts i 0 ≤ 1099511627775
+most-small zero l = omega arith
+most-small (suc zero) l = omega arith
+most-small (suc (suc zero)) l = omega arith
+most-small (suc (suc (suc zero))) l = omega arith
+most-small (suc (suc (suc (suc zero)))) l = omega arith
+most-small (suc (suc (suc (suc (suc zero))))) l = omega arith
+most-small (suc (suc (suc (suc (suc (suc zero)))))) l = omega arith
+most-small (suc (suc (suc (suc (suc (suc (suc zero))))))) l = omega arith
+most-small (suc (suc (suc (suc (suc (suc (suc (suc i)))))))) l = absurd (omega arith)
 
-      pub all-pairs : true ≡ arePairs (length d) w
-      unfolding allDigits
-      all-pairs = sym (rw (u .fits) (u .digits ∙ rw end))
+pub most-below : (sort : ℕ) → mostOf sort ≤ 1099511627775
+most-below sort = most-small (sort % 8) (omega arith)
 
-      pub all-read : Reads (record { understood = true; count = length w / 2 }) w d room
-      unfolding octetsIn
-      all-read =
-          let n : length w / 2 ≡ i = omega (arith, u .some) in
-          record { long = u .long; inside = u .enough; are = λ e. rw n (sym (u .is ∙ rw (end, append-nil))) }
+-- ---- one word
+module _ (sort at end most : ℕ) (line : List ℕ) (n : Number) (b : Bool) where
+  pub number-told : most ≡ mostOf sort → Counted (eqb sort 1) most at line n → b ≡ ended (drop (n .at) line)
+      → wordOf (record { good = leb (n .value) most && b; value = n .value; at = n .at; end = end }) line
+      ≡ numberRead sort (take end line) (drop at line)
+  number-told is h e = rw (← is, ← h .is, ← h .text, ← e)
 
--- a word of one character
-module _ (w d : List ℕ) (short : length w ≡ 1) where
-  pub dash-told : eqb (getD w 0 0) 45 ≡ isOctets (length d) w
-  dash-told = rw (eq-eqb (length w) 1 short)
+  pub number-inside : end ≤ at → Counted (eqb sort 1) most at line n → Inside end (n .at) line line
+  number-inside l h = record { apart = omega (arith, h .past); within = h .inside; long = refl }
 
-  pub dash-read : (t : Bool) → Reads (record { understood = t; count = 0 }) w d d
-  unfolding octetsIn
-  dash-read t = record { long = refl; inside = omega arith; are = λ e. go w short }
+module _ (wanted at end : ℕ) (line after : List ℕ) (p : Pairs) (h : Paired (octetsOf (drop at line)) (behindWord (drop at line)) end line p after) where
+  pub octets-sum : end + p .count ≤ length line
+  octets-sum = omega (arith, h .inside .0, h .inside .1)
+
+  pub octets-told : (b : Bool) → end ≤ at → at < length line → b ≡ ended (drop (p .at) after)
+      → wordOf (record { good = (eqb wanted 0 || eqb (p .count) wanted) && b; value = end + p .count; at = p .at; end = end + p .count }) after
+      ≡ octetsRead wanted (take end line) (drop at line)
+  octets-told b l m e =
+      let v : end + p .count ≡ length (take end line ++ octetsOf (drop at line)) =
+      rw (length-append, length-take-le end line (omega arith), h .many) in
+      rw (h .octets′, h .text′, v, h .many, e, h .text′)
+
+  pub octets-inside : Inside (end + p .count) (p .at) line after
+  octets-inside = record { apart = h .inside .0; within = h .inside .1; long = h .long }
+
+pub word-octets : (sort : ℕ) (o t : List ℕ) (w : Read) → 8 ≤ sort → w ≡ octetsRead (sort % 8) o t → w ≡ wordRead sort o t
+unfolding wordRead
+word-octets sort o t w l e = rw (le-leb 8 sort l) e
+
+pub word-number : (sort : ℕ) (o t : List ℕ) (w : Read) → sort < 8 → w ≡ numberRead sort o t → w ≡ wordRead sort o t
+unfolding wordRead
+word-number sort o t w l e = rw (lt-leb 8 sort l) e
+
+-- ---- a line
+module _ (s : Line) (w : Word) (r : Line) (sort : ℕ) where
+  pub worded-name : sort ≡ 1 → ((l k : List ℕ) → gathered r l ≡ rule.named (gathered s k) (wordOf w l) (rowOf (keyOf (s .row) (w .value))))
+      → (l k : List ℕ) → gathered r l ≡ rule.worded (gathered s k) sort (wordOf w l)
+  worded-name e h l k = rw (eq-eqb sort 1 e) (h l k)
+
+  pub worded-value : (sort ≡ 1 → ⊥) → ((l k : List ℕ) → gathered r l ≡ rule.valued (gathered s k) (wordOf w l))
+      → (l k : List ℕ) → gathered r l ≡ rule.worded (gathered s k) sort (wordOf w l)
+  worded-value f h l k = rw (ne-eqb sort 1 f) (h l k)
+
+pub named-told : (s : Line) (w : Word) (row sorts : ℕ) → row ≡ rowOf (keyOf (s .row) (w .value)) → sorts ≡ getD allSorts row 0 → (l k : List ℕ)
+    → gathered (record { understood = false; more = w .good && not (eqb row 0); row = row; sorts = sorts; values = s .values; count = s .count; at = w .at; end = w .end }) l
+    ≡ rule.named (gathered s k) (wordOf w l) (rowOf (keyOf (s .row) (w .value)))
+named-told s w row sorts e f l k = rw (← e, f)
+
+-- the flag that ends a line
+module _ (last : Bool) (sort : ℕ) where
+  pub goes-on : (last || eqb sort 0 || eqb sort 15) ≡ false → last ≡ false
+  goes-on = go last
     where
-      go : (v : List ℕ) → length v ≡ 1 → [] ≡ octetsIn v
-      go [] e = absurd (omega (arith, e))
-      go (x ∷ []) e = refl
-      go (x ∷ y ∷ v) e = absurd (omega (arith, e))
+      go : (b : Bool) → (b || eqb sort 0 || eqb sort 15) ≡ false → b ≡ false
+      go false e = refl
+      go true e = e
 
-pub pairs-told : (w : List ℕ) (n : ℕ) (r : Octets) → (length w ≡ 1 → ⊥) → r .understood ≡ arePairs n w → r .understood ≡ isOctets n w
-pairs-told w n r f e = rw (ne-eqb (length w) 1 f) e
+  pub step-there : (at n : ℕ) → (last ≡ false → at < n) → (last || eqb sort 0 || eqb sort 15) ≡ false → at < n
+  step-there at n h e = h (goes-on e)
 
--- ---- what word i says is what the word says
-module _ (line w : List ℕ) (i : ℕ) (is : w ≡ wordIn line i) where
-  pub end-told : eqb (length w) 0 ≡ noWord line i
-  end-told = rw is
+  module _ (s r : Line) (line : List ℕ) (at : ℕ) (t : drop at line ≡ skipped (drop (s .at) line)) (is : last ≡ isEmpty (drop at line)) (k : sort ≡ s .sorts % 16) where
+    pub step-closed : (last || eqb sort 0 || eqb sort 15) ≡ true
+        → ((l : List ℕ) → gathered r l ≡ rule.closed (gathered s l) (eqb sort 15 || (eqb sort 0 && last)) (drop at l))
+        → gathered r line ≡ rule.step (gathered s line)
+    unfolding rule.step
+    step-closed e h = h line ∙ rw (← k, ← t, ← is, e)
 
-  pub fixed-told : (digits most : ℕ) (t : Bool) → t ≡ isFixed digits most w → t ≡ isFixed digits most (wordIn line i)
-  fixed-told digits most t e = rw (← is) e
+    pub step-worded : (last || eqb sort 0 || eqb sort 15) ≡ false → (w : Word) (after : List ℕ)
+        → wordOf w after ≡ wordRead sort (take (s .end) line) (drop at line)
+        → ((l k : List ℕ) → gathered r l ≡ rule.worded (gathered s k) sort (wordOf w l))
+        → gathered r after ≡ rule.step (gathered s line)
+    unfolding rule.step
+    step-worded e w after f h = h after line ∙ ap (λ (x : Read). rule.worded (gathered s line) sort x) f ∙ sym (rw (← k, ← t, ← is, e))
 
-  pub fixed-value : (digits most v : ℕ) → v ≡ fixedIn digits most w → v ≡ fixedIn digits most (wordIn line i)
-  fixed-value digits most v e = rw (← is) e
+module _ (r : Line) (line after : List ℕ) (at end : ℕ) (a : r .at ≡ at) (e : r .end ≡ end) where
+  pub inside-closed : (from : ℕ) → end ≤ from → from ≤ at → at ≤ length line → Inside (r .end) (r .at) line line
+  inside-closed from l m n = record { apart = omega (arith, a, e); within = omega (arith, a); long = refl }
 
-  pub number-told : (hex : Bool) (most : ℕ) (t : Bool) → t ≡ isNumber hex most w → t ≡ isNumber hex most (wordIn line i)
-  number-told hex most t e = rw (← is) e
+  pub inside-worded : Inside end at line after → Inside (r .end) (r .at) line after
+  inside-worded i = record { apart = omega (arith, a, e, i .apart); within = omega (arith, a, i .within); long = i .long }
 
-  pub number-value : (hex : Bool) (most v : ℕ) → v ≡ numberIn hex most w → v ≡ numberIn hex most (wordIn line i)
-  number-value hex most v e = rw (← is) e
+module _ (n : ℕ) (x : Gathered) where
+  stays : x .more ≡ false → rule.steps (suc n) x ≡ x
+  unfolding rule.steps
+  stays e = rw e
 
-  pub octets-told : (n : ℕ) (t : Bool) → t ≡ isOctets n w → t ≡ isOctets n (wordIn line i)
-  octets-told n t e = rw (← is) e
+  goes : x .more ≡ true → rule.steps (suc n) x ≡ rule.steps n (rule.step x)
+  unfolding rule.steps
+  goes e = rw e
 
-  pub octets-read : (r : Octets) (before after : List ℕ) → Reads r w before after → Reads r (wordIn line i) before after
-  octets-read r before after h = rw (← is) h
+-- after k words, so many fewer lead to the same
+pub record Reading (line₀ line : List ℕ) (s : Line) (k : ℕ) : Type 0 where
+  pub is : rule.steps (16 - k) (gathered s line) ≡ lineRead line₀
+  pub inside : Inside (s .end) (s .at) line₀ line
+  pub some : k ≤ 16
+
+pub read-none : (line : List ℕ) (s : Line) → ((l : List ℕ) → gathered s l ≡ begun l) → s .at ≡ 0 → s .end ≡ 0 → Reading line line s 0
+read-none line s h a e =
+    record {
+      is = ap (λ (x : Gathered). rule.steps 16 x) (h line);
+      inside = record { apart = omega (arith, a, e); within = omega (arith, a); long = refl };
+      some = omega arith;
+    }
+
+module _ (line₀ line : List ℕ) (s : Line) (k : ℕ) (u : Reading line₀ line s k) where
+  pub read-apart : s .end ≤ s .at
+  read-apart = u .inside .apart
+
+  pub read-within : s .at ≤ length line
+  read-within = omega (arith, u .inside .within, u .inside .long)
+
+  pub read-long : length line ≡ length line₀
+  read-long = u .inside .long
+
+  pub read-all : 16 ≤ k → Reads s line₀ line
+  unfolding rule.steps
+  read-all l =
+      let e : 16 - k ≡ 0 = omega arith in
+      record { is = subst (λ (n : ℕ). rule.steps n (gathered s line) ≡ lineRead line₀) e (u .is); inside = u .inside }
+
+  module _ (more : k < 16) where
+    next-read : rule.steps (suc (16 - (k + 1))) (gathered s line) ≡ lineRead line₀
+    next-read = let e : 16 - k ≡ suc (16 - (k + 1)) = omega arith in subst (λ (n : ℕ). rule.steps n (gathered s line) ≡ lineRead line₀) e (u .is)
+
+    pub read-ends : not (s .more) ≡ true → Reads s line₀ line
+    read-ends e = record { is = sym (stays (16 - (k + 1)) (gathered s line) (not-true (s .more) e)) ∙ next-read; inside = u .inside }
+
+    pub read-more : (r : Line) (after : List ℕ) → not (s .more) ≡ false → gathered r after ≡ rule.step (gathered s line)
+        → Inside (r .end) (r .at) line after → Reading line₀ after r (k + 1)
+    read-more r after e f i =
+        record {
+          is = ap (λ (x : Gathered). rule.steps (16 - (k + 1)) x) f ∙ sym (goes (16 - (k + 1)) (gathered s line) (not-false (s .more) e)) ∙ next-read;
+          inside = record { apart = i .apart; within = omega (arith, i .within, u .inside .long); long = i .long ∙ u .inside .long };
+          some = omega arith;
+        }
 
 pub ruleset steps = (
   needs,
-  no-blank,
-  goes-blank,
-  goes-other,
-  running-none,
-  run-out,
-  run-ends,
-  run-goes,
-  passed-none,
-  passed-more,
-  passed-all,
-  first-told,
-  word-told,
-  small-letter,
-  small-other,
-  letter-fits,
-  figure-low,
-  value-figure,
-  figure-high,
-  capital-low,
-  value-capital,
-  capital-high,
-  small-low,
-  value-small,
-  small-high,
-  value-none,
-  other-length,
-  named-none,
-  name-inside,
-  named-other,
-  named-more,
-  named-all,
-  digit-more,
+  skip-none,
+  skip-out,
+  skip-ends,
+  skip-more,
+  end-blank,
+  last-not,
+  last-is,
+  last-no,
+  end-line,
+  comment-told,
+  comment-none,
+  letter-more,
   figure-more,
-  no-digit,
-  no-digit-value,
-  none-small,
-  not-digit,
-  not-digit-value,
-  too-large,
-  too-large-value,
-  counting-none,
-  counting-small,
-  counting-more,
-  counted-all,
-  counted-value,
-  other-digits,
-  other-value,
-  as-digits,
-  as-value,
-  no-pairs,
-  none-read,
-  paired-none,
-  pair-high,
-  pair-low,
-  pair-place,
-  no-pair,
-  pair-fits,
-  pair-sum,
-  paired-more,
-  all-pairs,
-  all-read,
-  dash-told,
+  shifted-low,
+  shifted-high,
+  count-none,
+  count-small,
+  count-all,
+  count-ends,
+  count-more,
+  pair-none,
+  pair-started,
+  pair-long,
+  pair-all,
+  pair-at,
+  pair-to,
+  pair-less,
+  pair-ends,
+  pair-more,
+  no-octet,
+  one-octet,
+  octet-small,
+  hex-fits,
   dash-read,
-  pairs-told,
-  end-told,
-  fixed-told,
-  fixed-value,
+  pairs-read,
+  find-none,
+  find-out,
+  find-here,
+  find-more,
+  most-below,
   number-told,
-  number-value,
+  number-inside,
+  octets-sum,
   octets-told,
-  octets-read,
+  octets-inside,
+  word-octets,
+  word-number,
+  worded-name,
+  worded-value,
+  named-told,
+  step-there,
+  step-closed,
+  step-worded,
+  inside-closed,
+  inside-worded,
+  read-none,
+  read-apart,
+  read-within,
+  read-long,
+  read-all,
+  read-ends,
+  read-more,
 )

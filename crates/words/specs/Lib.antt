@@ -1,2 +1,4 @@
 pub mod Words
-pub mod Says
+pub mod Letters
+pub mod Table
+pub mod Line

@@ -1,13 +1,7 @@
--- There is no word if it is empty. Assumes nothing.
+-- The text at a place begins with the character there; past the line there is none. Assumes nothing.
 use Rattle.words.proofs.Steps.{steps}
 use Rattle.words.proofs.is_end.Statement.{statement}
 use Rattle.words.proofs.is_end.Tie as tie
 
-word-requires : tie.Need-word-requires
-word-requires c κs = search steps
-
-returns : tie.Need-returns
-returns c = search steps
-
 pub is-end-spec : {M : Type 1} → statement M
-is-end-spec = tie.close (tie.spec word-requires returns)
+is-end-spec = tie.close (tie.spec (λ c. search steps) (λ c κs. search steps) (λ c. search steps) (λ c. search steps))

@@ -1,16 +1,18 @@
--- The word of the line is the word that was read. Assumes nothing.
-use Rattle.words.proofs.Steps.{steps}
+-- What was read and the digits to come are the whole number (`Counting`). Assumes nothing.
+use Prim.Native.Nat.{_-_}
+use lib.ListN.{length}
+use Rattle.words.proofs.Steps.{steps, Counting}
 use Rattle.words.proofs.number_at.Statement.{statement}
 use Rattle.words.proofs.number_at.Tie as tie
 
-word-requires : tie.Need-word-requires
-word-requires c κs = search steps
+abbrev Inv-loop : tie.InvT-loop
+Inv-loop line from name most value₀ at₀ value at = Counting name most line from value at
 
-number-in-requires : tie.Need-number-in-requires
-number-in-requires c κs = search steps
-
-returns : tie.Need-returns
-returns c = search steps
+abbrev μ-loop : tie.MeasureT-loop
+μ-loop line from name most value₀ at₀ value at = length line - at
 
 pub number-at-spec : {M : Type 1} → statement M
-number-at-spec = tie.close (tie.spec word-requires number-in-requires returns)
+number-at-spec =
+    tie.close
+    (tie.spec Inv-loop μ-loop (λ c. search steps) (λ c. search steps) (λ c κs. search steps) (λ c. search steps) (λ c κs. search steps)
+    (λ c. search steps) (λ c. search steps) (λ c. search steps) (λ c. search steps))

@@ -1,0 +1,284 @@
+// What the library answered, as rows.
+use crate::Row;
+use types::Answer;
+use types::Arrival;
+use types::Clear;
+use types::CommandBody;
+use types::Kind;
+use types::Opaque;
+use types::ParsedCommand;
+use types::ParsedResponse;
+use types::ResponseBody;
+use types::Tar;
+use types::Written;
+use types::WrittenPart;
+
+// All octets of a buffer, as a part of it.
+const ALL: u64 = 65535;
+
+// The names of answers.
+pub const REFUSED: u64 = 19502124196;
+
+pub const PLAIN: u64 = 17171758;
+
+pub const CIPHERED: u64 = 113288333476;
+
+pub const PARTS: u64 = 16829075;
+
+pub const SINGLE: u64 = 647437701;
+
+pub const PART: u64 = 525908;
+
+pub const KEPT: u64 = 366100;
+
+pub const HELD: u64 = 267652;
+
+pub const PACKET: u64 = 538029236;
+
+pub const NO: u64 = 463;
+
+pub const DISPLACED: u64 = 4728234740900;
+
+pub const OCTETS: u64 = 507123347;
+
+pub const RECORD: u64 = 609336900;
+
+pub const COMMAND: u64 = 3738600900;
+
+pub const RESPONSE: u64 = 624498817637;
+
+pub const FRESH: u64 = 6887016;
+
+pub const FILLED: u64 = 211169444;
+
+pub const LENT: u64 = 398804;
+
+pub const NUMBERED: u64 = 504023402660;
+
+pub const SLOT: u64 = 635380;
+
+pub const YES: u64 = 25779;
+
+pub const CELLS: u64 = 3322259;
+
+pub const OUTPUT: u64 = 526009012;
+
+pub const BUFFER: u64 = 89331890;
+
+// ---- rows
+// A name alone, and with one value.
+pub fn plain(name: u64) -> Row {
+    one(name, 0, 0)
+}
+
+pub fn one(name: u64, sort: u64, v: u64) -> Row {
+    Row {
+        name: name,
+        sorts: sort,
+        values: [v, 0, 0, 0, 0, 0, 0, 0],
+    }
+}
+
+// `refused N`.
+fn refusal(why: types::Refusal) -> Row {
+    one(REFUSED, 6, why.number() as u64)
+}
+
+// ---- numbers of fields
+fn spi(s: types::Spi) -> u64 {
+    s.0 as u64 * 256 + s.1 as u64
+}
+
+fn tar(t: Tar) -> u64 {
+    t.0 as u64 * 65536 + t.1 as u64 * 256 + t.2 as u64
+}
+
+fn cntr(c: types::Cntr) -> u64 {
+    let low = c.2 as u64 * 65536 + c.3 as u64 * 256 + c.4 as u64;
+    c.0 as u64 * 4294967296 + c.1 as u64 * 16777216 + low
+}
+
+// ---- packets
+fn plain_command(c: Clear, p: types::PlainCommand) -> Row {
+    Row {
+        name: PLAIN,
+        sorts: 0xDC153112,
+        values: [
+            spi(c.spi),
+            c.kic as u64,
+            c.kid as u64,
+            tar(c.tar),
+            cntr(p.cntr),
+            p.pcntr as u64,
+            ALL,
+            ALL,
+        ],
+    }
+}
+
+fn ciphered_command(c: Clear, o: Opaque) -> Row {
+    Row {
+        name: CIPHERED,
+        sorts: 0xE63112,
+        values: [
+            spi(c.spi),
+            c.kic as u64,
+            c.kid as u64,
+            tar(c.tar),
+            o.header as u64,
+            ALL,
+            0,
+            0,
+        ],
+    }
+}
+
+// The fields of a command; of the buffers, the check field, the data and the opaque octets.
+pub fn command(parsed: ParsedCommand) -> Row {
+    match parsed {
+        ParsedCommand::Fields(c) => {
+            let body = c.body;
+            match body {
+                CommandBody::Plain(p) => plain_command(c.clear, p),
+                CommandBody::Ciphered(o) => ciphered_command(c.clear, o),
+            }
+        }
+        ParsedCommand::Refused(why) => refusal(why),
+    }
+}
+
+fn plain_response(t: Tar, p: types::PlainResponse) -> Row {
+    Row {
+        name: PLAIN,
+        sorts: 0xDC1153,
+        values: [
+            tar(t),
+            cntr(p.cntr),
+            p.pcntr as u64,
+            p.status as u64,
+            ALL,
+            ALL,
+            0,
+            0,
+        ],
+    }
+}
+
+fn ciphered_response(t: Tar, o: Opaque) -> Row {
+    Row {
+        name: CIPHERED,
+        sorts: 0xE63,
+        values: [tar(t), o.header as u64, ALL, 0, 0, 0, 0, 0],
+    }
+}
+
+// The fields of a response, likewise.
+pub fn response(parsed: ParsedResponse) -> Row {
+    match parsed {
+        ParsedResponse::Fields(r) => {
+            let body = r.body;
+            match body {
+                ResponseBody::Plain(p) => plain_response(r.tar, p),
+                ResponseBody::Ciphered(o) => ciphered_response(r.tar, o),
+            }
+        }
+        ParsedResponse::Refused(why) => refusal(why),
+    }
+}
+
+// `parts CHECK DATA OPAQUE`.
+pub fn shown() -> Row {
+    Row {
+        name: PARTS,
+        sorts: 0xEDC,
+        values: [ALL, ALL, ALL, 0, 0, 0, 0, 0],
+    }
+}
+
+// What writing to the third buffer came to: a name, how many octets stand at its start, and these.
+pub fn written(name: u64, w: Written) -> Row {
+    match w {
+        Written::Octets(n) => one(name, 10, n as u64),
+        Written::Refused(why) => refusal(why),
+    }
+}
+
+// `part TOTAL LENGTH OCTETS`.
+pub fn written_part(w: WrittenPart) -> Row {
+    match w {
+        WrittenPart::Part { total, length } => Row {
+            name: PART,
+            sorts: 0xA6,
+            values: [total as u64, length as u64, 0, 0, 0, 0, 0, 0],
+        },
+        WrittenPart::Refused(why) => refusal(why),
+    }
+}
+
+// ---- series
+// A key, and three numbers.
+pub(crate) fn keyed(
+    name: u64,
+    sorts: u64,
+    k: types::Key,
+    total: u8,
+    number: u8,
+    start: usize,
+) -> Row {
+    let serial = k.serial;
+    let identifier = k.identifier;
+    Row {
+        name: name,
+        sorts: sorts,
+        values: [
+            k.sender as u64,
+            k.width as u64,
+            k.reference as u64,
+            serial.0 as u64,
+            identifier.0 as u64,
+            total as u64,
+            number as u64,
+            start as u64,
+        ],
+    }
+}
+
+// `single START`, or `part SENDER WIDTH REFERENCE SERIAL IDENTIFIER TOTAL NUMBER START`.
+pub fn arrival(a: Arrival) -> Row {
+    match a {
+        Arrival::Single { start } => one(SINGLE, 6, start as u64),
+        Arrival::Part {
+            key,
+            total,
+            number,
+            start,
+        } => keyed(PART, 0x66622664, key, total, number, start),
+        Arrival::Refused(why) => refusal(why),
+    }
+}
+
+fn mark(displaced: bool) -> u64 {
+    if displaced { DISPLACED } else { NO }
+}
+
+// `kept SLOT no`, `kept SLOT displaced`, `held SLOT`, or the packet in the second buffer.
+pub fn answer(a: Answer) -> Row {
+    match a {
+        Answer::Kept { slot, displaced } => Row {
+            name: KEPT,
+            sorts: 0x76,
+            values: [slot as u64, mark(displaced), 0, 0, 0, 0, 0, 0],
+        },
+        Answer::HeldAlready { slot } => one(HELD, 6, slot as u64),
+        Answer::Packet { length } => one(PACKET, 9, length as u64),
+        Answer::Refused(why) => refusal(why),
+    }
+}
+
+// `record KIND`.
+pub fn head(kind: Kind) -> Row {
+    match kind {
+        Kind::Command => one(RECORD, 7, COMMAND),
+        Kind::Response => one(RECORD, 7, RESPONSE),
+    }
+}

@@ -1,0 +1,12 @@
+-- By cases on the row, in the order of the rule. Assumes nothing.
+use Rattle.bench.proofs.Steps.{steps}
+use Rattle.bench.proofs.changes.change.Statement.{statement}
+use Rattle.bench.proofs.changes.change.Tie as tie
+
+pub change-spec : {M : Type 1} → statement M
+change-spec =
+    tie.close
+    (tie.spec (λ c κs. search steps) (λ c. search steps) (λ c. search steps) (λ c. search steps) (λ c κs. search steps) (λ c κs. search steps)
+    (λ c κs. search steps) (λ c. search steps) (λ c. search steps) (λ c. search steps) (λ c κs. search steps) (λ c κs. search steps)
+    (λ c κs. search steps) (λ c. search steps) (λ c. search steps) (λ c. search steps) (λ c κs. search steps) (λ c κs. search steps)
+    (λ c κs. search steps) (λ c. search steps))

@@ -1,0 +1,10 @@
+-- By cases on the row. Assumes nothing.
+use Rattle.bench.proofs.Steps.{steps}
+use Rattle.bench.proofs.changes.note.Statement.{statement}
+use Rattle.bench.proofs.changes.note.Tie as tie
+
+pub note-spec : {M : Type 1} → statement M
+note-spec =
+    tie.close
+    (tie.spec (λ c. search steps) (λ c. search steps) (λ c κs. search steps) (λ c. search steps) (λ c. search steps) (λ c. search steps)
+    (λ c. search steps))

@@ -1,0 +1,162 @@
+// Lines that change what is held: taking, a fresh record, filling, lending, numbering.
+use crate::Bench;
+use answers::rows;
+use lines::lent;
+use types::Record;
+use words::table;
+ghost use mathlib.Core.Path.{_≡_};
+ghost use Prim.Native.Nat.{_<_};
+ghost use lib.ListN.{length, replicate, set};
+ghost use lib.Dec.{eqb};
+ghost use Rattle.skelmarix.specs.Rules.{state, after, toldAnswer, freshRecord, slotCount};
+ghost use Rattle.lines.specs.Lent.{kindBy};
+ghost use Rattle.bench.specs.Lines as rule;
+ghost use Rattle.bench.specs.Lines.{held, called, taken, changed, noted, withRecord};
+
+// How many octets the cells have.
+const CELLS: usize = types::SLOTS * types::PARTS * types::PART_OCTETS;
+
+// What is held afterwards, and the answer.
+pub(crate) struct Made {
+    pub(crate) bench: Bench,
+    pub(crate) row: answers::Row,
+}
+
+// The bench with another record.
+pub(crate) fn with_record(b: Bench, r: Record) -> Bench
+    ensures { λ x. ⌜ x ≡ withRecord b r ⌝ }
+{
+    let lent = b.lent;
+    Bench {
+        record: r,
+        lent: lent,
+        numbered: b.numbered,
+    }
+}
+
+// Fills a buffer with one octet.
+pub(crate) fn fill(buffer: &mut [u8], x: u8)
+    ensures { λ _. ⌜ now (buffer .exit) ≡ replicate (length (now (buffer .entry))) x ⌝ }
+{
+    let mut i = 0;
+    while i < buffer.len() {
+        buffer[i] = x;
+        i += 1;
+    }
+}
+
+// ---- taking
+// Takes a message or a page.
+fn call(row: usize, r: Record, octets: &[u8], cells: &mut [u8], output: &mut [u8]) -> types::Taken
+    ensures { λ t. ⌜ after (toldAnswer (t .answer)) (t .record) (now (cells .exit)) (now (output .exit)) ≡ rule.call row (now (octets .entry)) (state r (now (cells .entry)) (now (output .entry))) ⌝ }
+{
+    if row == table::MESSAGE {
+        let ud = skelmarix::own_octets(octets, 4);
+        return skelmarix::take_message(r, lines::sender_of(octets), ud, cells, output);
+    }
+    skelmarix::take_page(r, octets, cells, output)
+}
+
+fn take(row: usize, octets: &[u8], b: Bench, cells: &mut [u8], output: &mut [u8]) -> Made
+    ensures { λ r. ⌜ held (r .bench) (now (cells .exit)) (now (output .exit)) ≡ taken (held b (now (cells .entry)) (now (output .entry))) (rule.call row (now (octets .entry)) (called (held b (now (cells .entry)) (now (output .entry))))) ⌝ }
+{
+    let n = lent(b.lent[0], CELLS, cells.len());
+    let m = lent(b.lent[1], types::MOST_OCTETS, output.len());
+    let t = call(row, b.record, octets, &mut cells[0..n], &mut output[0..m]);
+    let answer = t.answer;
+    let after = t.record;
+    Made {
+        bench: with_record(b, after),
+        row: rows::answer(answer),
+    }
+}
+
+// ---- filling
+// Every octet of cells and output.
+fn fill_both(x: u8, cells: &mut [u8], output: &mut [u8])
+    ensures { λ _. ⌜ now (cells .exit) ≡ replicate (length (now (cells .entry))) x ⌝ }
+    ensures { λ _. ⌜ now (output .exit) ≡ replicate (length (now (output .entry))) x ⌝ }
+{
+    fill(cells, x);
+    fill(output, x);
+}
+
+// ---- lending and numbering
+fn lend(b: Bench, i: usize, n: usize) -> Bench
+    requires { ⌜ i < 3 ⌝ }
+    ensures { λ r. ⌜ r ≡ rule.withLent b (set (b .lent) i n) ⌝ }
+{
+    let mut c = b;
+    c.lent[i] = n;
+    c
+}
+
+fn note(row: usize, n: usize, b: Bench) -> Bench
+    ensures { λ r. ⌜ r ≡ noted row n b ⌝ }
+{
+    if (table::LEND_CELLS - 1 < row) & (row < table::LEND_RIGHT) {
+        return lend(b, row - table::LEND_CELLS, n);
+    }
+    let mut c = b;
+    if row == table::LEND_RIGHT {
+        c.lent = [lines::RIGHT; 3];
+        return c;
+    }
+    if row == table::NUMBER {
+        c.numbered = true;
+        return c;
+    }
+    b
+}
+
+fn noted_name(row: usize) -> u64 {
+    if row == table::NUMBER {
+        rows::NUMBERED
+    } else {
+        rows::LENT
+    }
+}
+
+// The bench with a fresh record.
+fn fresh(row: usize, b: Bench) -> Bench
+    ensures { λ r. ⌜ r ≡ withRecord b (freshRecord slotCount (kindBy (eqb row 5))) ⌝ }
+{
+    with_record(
+        b,
+        skelmarix::fresh(lines::kind_of(row == table::FRESH_RESPONSE)),
+    )
+}
+
+fn named(b: Bench, name: u64) -> Made
+    ensures { λ r. ⌜ r .bench ≡ b ⌝ }
+{
+    Made {
+        bench: b,
+        row: rows::plain(name),
+    }
+}
+
+// Changes what is held as the line's row says.
+pub(crate) fn change(
+    row: usize,
+    n: usize,
+    octets: &[u8],
+    b: Bench,
+    cells: &mut [u8],
+    output: &mut [u8],
+) -> Made
+    ensures { λ r. ⌜ held (r .bench) (now (cells .exit)) (now (output .exit)) ≡ changed row n (now (octets .entry)) (held b (now (cells .entry)) (now (output .entry))) ⌝ }
+{
+    if row < 3 {
+        return take(row, octets, b, cells, output);
+    }
+    if row < table::FILL {
+        fill_both(0, cells, output);
+        return named(fresh(row, b), rows::FRESH);
+    }
+    if row == table::FILL {
+        fill_both(lines::octet(octets, 0), cells, output);
+        return named(b, rows::FILLED);
+    }
+    named(note(row, n, b), noted_name(row))
+}

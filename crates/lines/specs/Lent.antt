@@ -1,0 +1,26 @@
+-- How much of a buffer is lent, and what a line's fields say to the calls that a rule cites.
+use Prim.Native.Nat.{ℕ, _+_, _*_, min}
+use mathlib.Core.Bool.{Bool, cond}
+use mathlib.Core.List.{List}
+use lib.Dec.{eqb}
+use lib.ListN.{getD}
+use Rattle.types.specs.declared.Kind.{Kind}
+use Rattle.types.specs.declared.Kind.the-variants.{Command, Response}
+
+-- a number of octets lent that stands for the right one
+abbrev pub right : ℕ
+right = 65535
+
+-- how many octets are to be lent, and how many are of so many
+abbrev pub wantedOf : ℕ → ℕ → ℕ
+wantedOf n proper = cond (eqb n right) proper n
+
+abbrev pub lentOf : ℕ → ℕ → ℕ → ℕ
+lentOf n proper all = min (wantedOf n proper) all
+
+abbrev pub kindBy : Bool → Kind
+kindBy response = cond response Response Command
+
+-- the sender is the number of the first four octets
+abbrev pub senderOf : List ℕ → ℕ
+senderOf o = (getD o 0 0 * 256 + getD o 1 0) * 65536 + (getD o 2 0 * 256 + getD o 3 0)

@@ -1,0 +1,136 @@
+-- The kinds of lines, as a table: a row is a name behind the names of an earlier row, and the sorts of the words that follow. A new kind of
+-- line is a new row.
+use Prim.Native.Nat.{ℕ, _+_, _*_, _%_}
+use Prim.Native.String.{String}
+use mathlib.Core.Bool.{cond}
+use mathlib.Core.List.{List, [], _∷_, map}
+use lib.Dec.{eqb}
+use lib.ListN.{drop, getD}
+use Rattle.words.specs.Letters.{letters}
+
+-- ---- sorts of words
+-- a name; a number up to 4,294,967,295, 65,535, 16,384, 255 or 2; octets, any number of them or so many; parts of a slot
+abbrev pub name : ℕ
+name = 1
+
+abbrev pub number : ℕ
+number = 2
+
+abbrev pub pair : ℕ
+pair = 3
+
+abbrev pub lent : ℕ
+lent = 4
+
+abbrev pub octet : ℕ
+octet = 5
+
+abbrev pub place : ℕ
+place = 6
+
+abbrev pub any : ℕ
+any = 8
+
+abbrev pub octets : ℕ → ℕ
+octets n = 8 + n
+
+abbrev pub parts : ℕ
+parts = 15
+
+-- the greatest number of each sort; no name has more than eight letters
+abbrev pub mosts : List ℕ
+mosts = 0 ∷ 1099511627775 ∷ 4294967295 ∷ 65535 ∷ 16384 ∷ 255 ∷ 2 ∷ 0 ∷ []
+
+abbrev pub mostOf : ℕ → ℕ
+mostOf sort = getD mosts (sort % 8) 0
+
+-- the line's end
+abbrev pub end : ℕ
+end = 0
+
+-- several sorts, one after the other, are one number: four bits each, the first lowest
+infixr 40 _then_
+abbrev pub _then_ : ℕ → ℕ → ℕ
+a then b = a + 16 * b
+
+-- ---- the rows
+pub record Row : Type 0 where
+  pub earlier : ℕ
+  pub named : String
+  pub sorts : ℕ
+
+abbrev pub row : ℕ → String → ℕ → Row
+row e n s = record { earlier = e; named = n; sorts = s }
+
+-- counted from 0, where a line begins
+abbrev pub rows : List Row
+rows =
+    row 0 "" name ∷
+    row 0 "message" (octets 4 then any) ∷
+    row 0 "page" any ∷
+    row 0 "fresh" name ∷
+    row 3 "command" end ∷
+    row 3 "response" end ∷
+    row 0 "fill" (octets 1) ∷
+    row 0 "lend" name ∷
+    row 7 "cells" lent ∷
+    row 7 "output" lent ∷
+    row 7 "buffer" lent ∷
+    row 7 "right" end ∷
+    row 0 "number" end ∷
+    row 0 "slot" (place then octet then octets 4 then octet then pair then octets 2 then octets 2 then octet then parts) ∷
+    row 0 "record" end ∷
+    row 0 "formed" end ∷
+    row 0 "cells" (number then number) ∷
+    row 0 "output" (number then number) ∷
+    row 0 "buffer" (number then number) ∷
+    row 0 "command" any ∷
+    row 0 "response" name ∷
+    row 20 "plain" any ∷
+    row 20 "ciphered" any ∷
+    row 0 "show" name ∷
+    row 23 "command" any ∷
+    row 23 "response" name ∷
+    row 25 "plain" any ∷
+    row 25 "ciphered" any ∷
+    row 0 "checksum" name ∷
+    row 28 "command" any ∷
+    row 28 "response" name ∷
+    row 30 "plain" any ∷
+    row 30 "ciphered" any ∷
+    row 0 "build" name ∷
+    row 33 "command" name ∷
+    row 33 "response" name ∷
+    row 34 "plain" (octets 2 then octets 1 then octets 1 then octets 3 then octets 5 then octets 1 then any then any) ∷
+    row 34 "ciphered" (octets 2 then octets 1 then octets 1 then octets 3 then number then any) ∷
+    row 35 "plain" (octets 3 then octets 5 then octets 1 then octets 1 then any then any) ∷
+    row 35 "ciphered" (octets 3 then number then any) ∷
+    row 0 "write" name ∷
+    row 40 "command" (number then number then number then any) ∷
+    row 40 "response" (number then number then number then any) ∷
+    row 40 "page" (octets 2 then octets 2 then octets 1 then number then any) ∷
+    row 0 "read" name ∷
+    row 44 "command" (octets 4 then any) ∷
+    row 44 "response" (octets 4 then any) ∷
+    row 44 "page" name ∷
+    row 47 "command" any ∷
+    row 47 "response" any ∷
+    []
+
+-- the key of a name behind an earlier row
+abbrev pub keyOf : ℕ → ℕ → ℕ
+keyOf earlier n = earlier % 64 * 1099511627776 + n % 1099511627776
+
+abbrev pub keys : List ℕ
+keys = map (λ r. keyOf (r .earlier) (letters 0 (r .named))) rows
+
+abbrev pub allSorts : List ℕ
+allSorts = map (λ r. r .sorts) rows
+
+-- the row of a key among keys that are counted from i; 0 if there is none
+unfoldable pub rowFrom : ℕ → ℕ → List ℕ → ℕ
+rowFrom key i [] = 0
+rowFrom key i (k ∷ ks) = cond (eqb k key) i (rowFrom key (i + 1) ks)
+
+abbrev pub rowOf : ℕ → ℕ
+rowOf key = rowFrom key 1 (drop 1 keys)

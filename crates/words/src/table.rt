@@ -1,0 +1,207 @@
+// The table of the kinds of lines. A row is a name behind the names of an earlier row, and the sorts of the words behind it; the rule
+// (specs/Table.antt) has it in words.
+ghost use mathlib.Core.Path.{_≡_};
+ghost use Prim.Native.Nat.{_≤_, _<_};
+ghost use lib.ListN.{getD};
+ghost use Rattle.words.specs.Table.{keys, rowOf, allSorts, mostOf};
+
+// How many rows there are; row 0 is where a line begins, and stands for none.
+const ROWS: usize = 50;
+
+// The rows that lines are told apart by.
+pub const MESSAGE: usize = 1;
+
+pub const FRESH_RESPONSE: usize = 5;
+
+pub const FILL: usize = 6;
+
+pub const LEND_CELLS: usize = 8;
+
+pub const LEND_RIGHT: usize = 11;
+
+pub const NUMBER: usize = 12;
+
+pub const SLOT: usize = 13;
+
+pub const RECORD: usize = 14;
+
+pub const CELLS: usize = 16;
+
+pub const BUFFER: usize = 18;
+
+pub const COMMAND: usize = 19;
+
+pub const CIPHERED_RESPONSE: usize = 22;
+
+pub const SHOW_COMMAND: usize = 24;
+
+pub const SHOW_CIPHERED: usize = 27;
+
+pub const SUM_COMMAND: usize = 29;
+
+pub const SUM_CIPHERED: usize = 32;
+
+pub const BUILD_COMMAND: usize = 36;
+
+pub const BUILD_CIPHERED_COMMAND: usize = 37;
+
+pub const BUILD_RESPONSE: usize = 38;
+
+pub const BUILD_CIPHERED_RESPONSE: usize = 39;
+
+pub const WRITE_RESPONSE: usize = 42;
+
+pub const WRITE_PAGE: usize = 43;
+
+pub const READ_COMMAND: usize = 45;
+
+pub const READ_RESPONSE: usize = 46;
+
+pub const READ_PAGE_RESPONSE: usize = 49;
+
+// The key of each row: its earlier row and its name.
+const KEYS: [u64; ROWS] = [
+    0,
+    14146962661,
+    525541,
+    6887016,
+    3302273484228,
+    3923033700965,
+    206220,
+    398788,
+    7696584716691,
+    7697107403444,
+    7696670726322,
+    7696600571156,
+    492210354,
+    635380,
+    609336900,
+    217658532,
+    3322259,
+    526009012,
+    89331890,
+    3738600900,
+    624498817637,
+    21990249727278,
+    22103520888996,
+    631287,
+    25292506039748,
+    25913266256485,
+    27487807866158,
+    27601079027876,
+    111840448173,
+    30790064178628,
+    31410824395365,
+    32985366005038,
+    33098637166756,
+    2794884,
+    36287622317508,
+    36908382534245,
+    37383412516142,
+    37496683677860,
+    38482924143918,
+    38596195305636,
+    24716933,
+    43984203711940,
+    44604963928677,
+    43980465636581,
+    594980,
+    48382250223044,
+    49003010439781,
+    48378512147685,
+    51680785106372,
+    52301545323109,
+];
+
+// The sorts of the words that follow, four bits each, the first lowest.
+const SORTS: [u64; ROWS] = [
+    0x1,
+    0x8C,
+    0x8,
+    0x1,
+    0x0,
+    0x0,
+    0x9,
+    0x1,
+    0x4,
+    0x4,
+    0x4,
+    0x0,
+    0x0,
+    0xF5AA35C56,
+    0x0,
+    0x0,
+    0x22,
+    0x22,
+    0x22,
+    0x8,
+    0x1,
+    0x8,
+    0x8,
+    0x1,
+    0x8,
+    0x1,
+    0x8,
+    0x8,
+    0x1,
+    0x8,
+    0x1,
+    0x8,
+    0x8,
+    0x1,
+    0x1,
+    0x1,
+    0x889DB99A,
+    0x82B99A,
+    0x8899DB,
+    0x82B,
+    0x1,
+    0x8222,
+    0x8222,
+    0x829AA,
+    0x1,
+    0x8C,
+    0x8C,
+    0x1,
+    0x8,
+    0x8,
+];
+
+// The greatest number of each sort.
+const MOSTS: [u64; 8] = [0, 1099511627775, 4294967295, 65535, 16384, 255, 2, 0];
+
+fn key_at(i: usize) -> u64
+    requires { ⌜ i < 50 ⌝ }
+    ensures { λ r. ⌜ r ≡ getD keys i 0 ⌝ }
+{
+    KEYS[i]
+}
+
+// The row of a key; 0 if there is none.
+pub(crate) fn find(key: u64) -> usize
+    ensures { λ r. ⌜ (r ≡ rowOf key) × (r < 50) ⌝ }
+{
+    let mut i = 1;
+    while i < ROWS {
+        if key_at(i) == key {
+            return i;
+        }
+        i += 1;
+    }
+    0
+}
+
+// The sorts of the words behind a row.
+pub(crate) fn sorts_of(row: usize) -> u64
+    requires { ⌜ row < 50 ⌝ }
+    ensures { λ r. ⌜ r ≡ getD allSorts row 0 ⌝ }
+{
+    SORTS[row]
+}
+
+// The greatest number of a sort.
+pub(crate) fn most_of(sort: u8) -> u64
+    ensures { λ r. ⌜ (r ≡ mostOf sort) × (r ≤ 1099511627775) ⌝ }
+{
+    MOSTS[(sort % 8) as usize]
+}
