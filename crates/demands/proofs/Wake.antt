@@ -24,7 +24,7 @@ use Rattle.slots.specs.FrontLaws.{same-key, key-same}
 use Rattle.formed.specs.Laws.{Formed}
 use Rattle.types.specs.declared.Record.{Record}
 use Rattle.demands.specs.Runs.{Call, outcome, left, Octets, Proper, Each}
-use Rattle.demands.specs.Wake.{Cut, elem, add, complete, Seen, seenPart, seenAfter, seen, follow, EachWith, Fair, Wakes, Served, begin, WakeWindow, PacketComes}
+use Rattle.demands.specs.Wake.{Cut, elem, add, complete, Seen, seenPart, seenAfter, seen, follow, EachWith, Fair, Wakes, Served, begin, WakeWindow, Last, Comes, PacketComes}
 use Rattle.demands.proofs.Lists.{elem-add, add-old}
 use Rattle.demands.proofs.Calls.{isPage, taking, Kept, Admits, kept-proper, kept-fresh}
 use Rattle.demands.proofs.Window.{Phase, before, during, done, other-part, Serves, fine-known, fine-first}
@@ -169,33 +169,35 @@ module _ (n : ℕ) (pos : 0 < n) (k : Kind) (K : Key) (P : List ℕ) (parts : Li
       record { again = a .again; waits = a .waits; wakes = a .wakes }
 
   -- ---- the call that brings the last missing part
-  -- a call after which no part is missing, where one was before it, hands out the packet
-  last-call : (q : Seen) (c : Call) (a : After) (r : reading.Outcome Brought)
+  -- a call after which no part is missing, where one was before it, brings the last of them
+  last-call : (q : Seen) (c : Call) (a : After) (r : reading.Outcome Brought) → read k (c .input) ≡ r → outcome n (q .store) c ≡ a
+      → ((total number start : ℕ) → r ≡ reading.gives (part K total number start) → complete (length parts) (q .got) ≡ false → Fair n k K P parts q c total number start)
       → ((total number start : ℕ) → r ≡ reading.gives (part K total number start) → complete (length parts) (q .got) ≡ false → Serves n k K P parts q c number a)
-      → complete (length parts) (q .got) ≡ false → complete (length parts) (seenAfter n k K q a r .got) ≡ true → Wakes n k K P parts q c a
-  last-call q c a (reading.refused m) s o f = absurd (clash (complete (length parts) (q .got)) f o)
-  last-call q c a (reading.gives (single start)) s o f = absurd (clash (complete (length parts) (q .got)) f o)
-  last-call q c a (reading.gives (part X total number start)) s o f = go (sameKey X K) refl f
+      → complete (length parts) (q .got) ≡ false → complete (length parts) (seenAfter n k K q a r .got) ≡ true → Last n k K P parts q c
+  last-call q c a (reading.refused m) b i f s o g = absurd (clash (complete (length parts) (q .got)) g o)
+  last-call q c a (reading.gives (single start)) b i f s o g = absurd (clash (complete (length parts) (q .got)) g o)
+  last-call q c a (reading.gives (part X total number start)) b i f s o g = go (sameKey X K) refl g
     where
-      new : complete (length parts) (add number (q .got)) ≡ true → (b : Bool) → elem number (q .got) ≡ b → b ≡ false
-      new g true e = absurd (clash (complete (length parts) (q .got)) (rw (add-old number (q .got) e) at g) o)
-      new g false e = refl
+      not-before : complete (length parts) (add number (q .got)) ≡ true → (b : Bool) → elem number (q .got) ≡ b → b ≡ false
+      not-before g true e = absurd (clash (complete (length parts) (q .got)) (rw (add-old number (q .got) e) at g) o)
+      not-before g false e = refl
 
-      go : (b : Bool) → sameKey X K ≡ b → complete (length parts) (seenPart n k K q a X number b .got) ≡ true → Wakes n k K P parts q c a
+      go : (b : Bool) → sameKey X K ≡ b → complete (length parts) (seenPart n k K q a X number b .got) ≡ true → Last n k K P parts q c
       go true e g =
-          let x : X ≡ K = same-key X K e in
-          s total number start (ap (λ (Y : Key). reading.gives (part Y total number start)) x) o .wakes (new g (elem number (q .got)) refl) g
+          let x : reading.gives (part X total number start) ≡ reading.gives (part K total number start) = ap (λ (Y : Key). reading.gives (part Y total number start)) (same-key X K e) in
+          let new = not-before g (elem number (q .got)) refl in
+          record {
+            number = number;
+            start = start;
+            brings = b ∙ x ∙ ap (λ (t : ℕ). reading.gives (part K t number start)) (f total number start x o .counted);
+            new = new;
+            all = g;
+            wakes = subst (Wakes n k K P parts q c) (sym i) (s total number start x o .wakes new g);
+          }
       go false e g = absurd (clash (complete (length parts) (q .got)) g o)
 
-  pub record Handed (q : Seen) (calls : List Call) : Type 0 where
-    pub u : List Call
-    pub c : Call
-    pub v : List Call
-    pub where-it-is : calls ≡ u ++ c ∷ v
-    pub wakes : Wakes n k K P parts (follow n k K q u) c (outcome n (follow n k K q u .store) c)
-
   handed-out : (calls : List Call) (q : Seen) → Kept n k (q .store) → PhaseOf q → Each Proper calls → All q calls → complete (length parts) (q .got) ≡ false
-      → complete (length parts) (follow n k K q calls .got) ≡ true → Handed q calls
+      → complete (length parts) (follow n k K q calls .got) ≡ true → Comes n k K P parts q calls
   handed-out [] q w ph ps f o g = absurd (clash (complete (length parts) (q .got)) g o)
   handed-out (c ∷ cs) q w ph ps f o g =
       let p = ps [] c cs refl in
@@ -205,11 +207,11 @@ module _ (n : ℕ) (pos : 0 < n) (k : Kind) (K : Key) (P : List ℕ) (parts : Li
     where
       go : ((total number start : ℕ) → read k (c .input) ≡ reading.gives (part K total number start) → complete (length parts) (q .got) ≡ false
           → Serves n k K P parts q c number (outcome n (q .store) c))
-          → (b : Bool) → complete (length parts) (seen n k K q c .got) ≡ b → (complete (length parts) (seen n k K q c .got) ≡ false → Handed (seen n k K q c) cs) → Handed q (c ∷ cs)
-      go s true e ih = record { u = []; c = c; v = cs; where-it-is = refl; wakes = last-call q c (outcome n (q .store) c) (read k (c .input)) s o e }
+          → (b : Bool) → complete (length parts) (seen n k K q c .got) ≡ b → (complete (length parts) (seen n k K q c .got) ≡ false → Comes n k K P parts (seen n k K q c) cs) → Comes n k K P parts q (c ∷ cs)
+      go s true e ih = record { u = []; c = c; v = cs; where-it-is = refl; last = last-call q c (outcome n (q .store) c) (read k (c .input)) refl refl (f [] c cs refl) s o e }
       go s false e ih =
           let h = ih e in
-          record { u = c ∷ h .u; c = h .c; v = h .v; where-it-is = ap (λ (l : List Call). c ∷ l) (h .where-it-is); wakes = h .wakes }
+          record { u = c ∷ h .u; c = h .c; v = h .v; where-it-is = ap (λ (l : List Call). c ∷ l) (h .where-it-is); last = h .last }
 
 -- ---- the theorems
 module _ (n : ℕ) (pos : 0 < n) (k : Kind) (K : Key) (P : List ℕ) (parts : List (List ℕ)) where
@@ -220,9 +222,8 @@ module _ (n : ℕ) (pos : 0 < n) (k : Kind) (K : Key) (P : List ℕ) (parts : Li
 
   pub packet-comes : PacketComes n k K P parts
   packet-comes cells earlier calls st fair all =
-      let h = handed-out n pos k K P parts (st .formed) (st .cut) (st .two) calls (begin n k K P parts cells earlier)
-      (kept-fresh n pos k (admits k) cells (st .size) earlier (st .before)) (before refl (st .lacks)) (st .proper) fair (none-complete (length parts) (st .two)) all in
-      record { u = h .u; c = h .c; v = h .v; where-it-is = h .where-it-is; wakes = h .wakes }
+      handed-out n pos k K P parts (st .formed) (st .cut) (st .two) calls (begin n k K P parts cells earlier)
+      (kept-fresh n pos k (admits k) cells (st .size) earlier (st .before)) (before refl (st .lacks)) (st .proper) fair (none-complete (length parts) (st .two)) all
     where
       none-complete : (t : ℕ) → 2 ≤ t → complete t [] ≡ false
       none-complete t two = go (complete t []) refl

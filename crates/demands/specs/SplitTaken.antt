@@ -45,7 +45,7 @@ Arrives n k K P t octets written =
     (cells : List ℕ) (earlier calls : List Call) → Sending n k K P cells earlier calls
     → EachWith n k K t (Sent n t written) (nothingSeen (run n (fresh n k cells) earlier)) calls
     → complete t (follow n k K (nothingSeen (run n (fresh n k cells) earlier)) calls .got) ≡ true
-    → Comes n k K P (listed octets t) cells earlier calls
+    → Comes n k K P (listed octets t) (nothingSeen (run n (fresh n k cells) earlier)) calls
 
 -- user data, for either kind and either width
 abbrev pub keyOf : ℕ → ℕ → ℕ → Key

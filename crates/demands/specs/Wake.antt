@@ -154,17 +154,27 @@ module _ (n : ℕ) (k : Kind) (K : Key) (P : List ℕ) (parts : List (List ℕ))
       → EachWith n k K (length parts) (Fair n k K P parts) (begin cells earlier) calls
       → EachWith n k K (length parts) (Served n k K P parts) (begin cells earlier) calls
 
+  -- "the one that brings the last missing part hands out exactly that packet": it is read as a part of the key, its number had not come, and
+  -- with it all have
+  pub record Last (w : Seen) (c : Call) : Type 0 where
+    pub number : ℕ
+    pub start : ℕ
+    pub brings : read k (c .input) ≡ reading.gives (part K (length parts) number start)
+    pub new : elem number (w .got) ≡ false
+    pub all : complete (length parts) (add number (w .got)) ≡ true
+    pub wakes : Wakes n k K P parts w c (outcome n (w .store) c)
+
   -- with all parts among the calls, such a call is there
-  pub record Comes (cells : List ℕ) (earlier calls : List Call) : Type 0 where
+  pub record Comes (w : Seen) (calls : List Call) : Type 0 where
     pub u : List Call
     pub c : Call
     pub v : List Call
     pub where-it-is : calls ≡ u ++ c ∷ v
-    pub wakes : Wakes n k K P parts (follow n k K (begin cells earlier) u) c (outcome n (follow n k K (begin cells earlier) u .store) c)
+    pub last : Last (follow n k K w u) c
 
   abbrev pub PacketComes : Type 0
   PacketComes =
       (cells : List ℕ) (earlier calls : List Call) → Start cells earlier calls
       → EachWith n k K (length parts) (Fair n k K P parts) (begin cells earlier) calls
       → complete (length parts) (follow n k K (begin cells earlier) calls .got) ≡ true
-      → Comes cells earlier calls
+      → Comes (begin cells earlier) calls
