@@ -21,6 +21,7 @@ demand-1 = record {
   checksum-octets = refusing.checksum-refused;
   writing-user-data = refusing.writing-refused;
   writing-a-page = refusing.page-refused;
+  unfit = refusing.unfit-refused slotCount;
 }
 
 pub demand-2 : Demand2

@@ -1,19 +1,21 @@
 -- A refused call leaves everything as it was, but for the one exception: by cases of what a call comes to.
-use Prim.Native.Nat.{ℕ, _<_}
-use mathlib.Core.Path.{_≡_, refl, sym, subst}
-use mathlib.Core.Bool.{Bool, true, false, not, cond, _||_}
+use Prim.Native.Nat.{ℕ, _+_, _<_}
+use mathlib.Core.Path.{_≡_, refl, sym, _∙_, subst}
+use mathlib.Core.Bool.{Bool, true, false, not, cond, _||_, or-true}
 use mathlib.Core.List.{List, []}
 use mathlib.Core.Option.{Option, none, some}
 use native.Mathlib.Omega.{arith}
 use lib.ListN.{length, drop}
 use lib.Dec.{eqb, ltb}
-use borrow.Author.Tests.{not-false}
+use borrow.Author.Tests.{not-false, ne-eqb, lt-leb}
 use Rattle.octets.specs.Tests.{neither}
 use Rattle.types.specs.Refusals as outcome
 use Rattle.types.specs.Refusals.{refuse_when_otherwise_}
 use Rattle.packet.specs.Packets.{wellFormed, mostOctets, mostChecksum, into, building, built, checksumOctets, checksummed, parsing, readable, shown, securedOf, checkOf, opaqueOf, fieldsOf, measured, shownData, shownCheck, shownOpaque}
 use Rattle.types.specs.declared.Key.{Key}
 use Rattle.arrival.specs.Arrivals.{Brought, single, part}
+use Rattle.arrival.specs.Message.{mostUserData}
+use Rattle.arrival.specs.Page.{pageOctets}
 use Rattle.arrival.specs.Keys.{ofPages}
 use Rattle.joined.specs.Fronts.{packetIn}
 use Rattle.slots.specs.Slots.{slotAt, freed, withSlots}
@@ -24,7 +26,7 @@ use Rattle.series.specs.Taking.{State, After, kept, heldAlready, packet, refuse
 use Rattle.series.specs.CaseLaws.{Case, other-total, other-octets, again, last, more, opens, displaces, case-of}
 use Rattle.series.specs.Calls.{Input, octetsOf, read, take}
 use Rattle.split.specs.Splitting as split
-use Rattle.demands.specs.Refusing.{Leaves, unaltered, dropped, TakingRefused, BuildingRefused, ChecksumRefused, WritingRefused, PageRefused, ParsingRefused}
+use Rattle.demands.specs.Refusing.{Leaves, unaltered, dropped, TakingRefused, BuildingRefused, ChecksumRefused, WritingRefused, PageRefused, ParsingRefused, UnfitRefused}
 use Rattle.demands.proofs.Calls.{isPage, taking-any}
 
 -- ---- taking
@@ -42,20 +44,28 @@ module _ (n : ℕ) (pos : 0 < n) (s : State) (i : Input) (number : ℕ) where
   not-handed : {j : ℕ} {A : Type 0} → packet j ≡ refused number → A
   not-handed e = let z : _≡_ {A = ℕ} 0 1 = cc in absurd (omega arith)
 
-  single-left : (o : Option (List ℕ)) → Left (handOut s (s .rec) o)
-  single-left none e = unaltered
-  single-left (some p) e = not-handed e
+  -- refused by another number, or not read as a part: no series is completed
+  by-number : {m : ℕ} → (m ≡ 9 → ⊥) → refused m ≡ refused number → Leaves n s i number s
+  by-number ne e = unaltered (λ nine slot c. ne (cc))
+
+  not-part : {r : outcome.Outcome Brought} → read (s .rec .kind) i ≡ r → ((key : Key) (total which start : ℕ) → r ≡ outcome.gives (part key total which start) → ⊥) → Leaves n s i number s
+  not-part r never = unaltered (λ nine slot c. never (c .key) (c .total) (c .which) (c .start) (sym r ∙ c .brings))
+
+  single-left : (start : ℕ) → read (s .rec .kind) i ≡ outcome.gives (single start) → (o : Option (List ℕ)) → Left (handOut s (s .rec) o)
+  single-left start r none e = not-part r (λ key total which start f. let z : _≡_ {A = ℕ} 0 1 = cc in omega arith)
+  single-left start r (some p) e = not-handed e
 
   part-left : (key : Key) (total which start : ℕ) → read (s .rec .kind) i ≡ outcome.gives (part key total which start)
       → (st : Step) → Case n s key total which (drop start (octetsOf i)) st → Left (acted n s key total which (drop start (octetsOf i)) st)
-  part-left key total which start r st (other-total j b t) e = unaltered
-  part-left key total which start r st (other-octets j b t h c) e = unaltered
+  part-left key total which start r st (other-total j b t) e = by-number (λ z. omega arith) e
+  part-left key total which start r st (other-octets j b t h c) e = by-number (λ z. omega arith) e
   part-left key total which start r st (again j b t h c) e = not-held e
   part-left key total which start r st (last j b t h c) e =
       go (packetIn (s .rec .kind) (ofPages key) total (joinedOctets (s .cells) (slotAt (s .rec .slots) j) j which (drop start (octetsOf i)))) e
     where
       go : (o : Option (List ℕ)) → Left (handOut s (withSlots (s .rec) (freed (s .rec .slots) j)) o)
-      go none e = dropped (cc) key total which start j r b c
+      go none e =
+          dropped (cc) j (record { key = key; total = total; which = which; start = start; brings = r; bears = b; counted = t; new = h; last = c })
       go (some p) e = not-handed e
   part-left key total which start r st (more j b t h c) e = not-kept e
   part-left key total which start r st (opens j l k z) e = not-kept e
@@ -63,8 +73,8 @@ module _ (n : ℕ) (pos : 0 < n) (s : State) (i : Input) (number : ℕ) where
 
   read-left : Formed n (s .rec .kind) (s .rec .slots) → (r : outcome.Outcome Brought) → read (s .rec .kind) i ≡ r → Left (taken n s (isPage i) (octetsOf i) r)
   unfolding takePart
-  read-left w (outcome.refused m) r e = unaltered
-  read-left w (outcome.gives (single start)) r e = single-left (packetIn (s .rec .kind) (isPage i) 1 (drop start (octetsOf i))) e
+  read-left w (outcome.refused m) r e = not-part r (λ key total which start f. let z : _≡_ {A = ℕ} 0 1 = cc in omega arith)
+  read-left w (outcome.gives (single start)) r e = single-left start r (packetIn (s .rec .kind) (isPage i) 1 (drop start (octetsOf i))) e
   read-left w (outcome.gives (part key total which start)) r e =
       part-left key total which start r (step n s key total which (drop start (octetsOf i))) (case-of n s key total which (drop start (octetsOf i)) pos w) e
 
@@ -72,7 +82,7 @@ module _ (n : ℕ) (pos : 0 < n) (s : State) (i : Input) (number : ℕ) where
   call-left = subst Left (sym (taking-any n s i)) (go (unfit n s) refl)
     where
       go : (b : Bool) → unfit n s ≡ b → Left (cond b ((refuse) 1 s) (taken n s (isPage i) (octetsOf i) (read (s .rec .kind) i)))
-      go true u e = unaltered
+      go true u e = by-number (λ z. omega arith) e
       go false u e =
           let f = neither (not (eqb (length (s .cells)) (cellsSize n)) || not (eqb (length (s .output)) mostOctets)) (not (recordFormed n (s .rec))) u .1 in
           read-left (formed-tells n (s .rec .kind) (s .rec .slots) (not-false (recordFormed n (s .rec)) f)) (read (s .rec .kind) i) refl e
@@ -125,3 +135,23 @@ parsing-refused k c p number e = record {
   where
     none : (y : List ℕ) → shown (readable k p (outcome.gives y)) ≡ []
     none y = nothing number (measured (fieldsOf k c p)) y (not (wellFormed k p)) (ltb mostOctets (length p)) e
+
+-- ---- bad buffers and records
+unfit-taken : (n : ℕ) (s : State) (i : Input) → unfit n s ≡ true → take n s i ≡ (refuse) 1 s
+unfit-taken n s i e = taking-any n s i ∙ rw e
+
+unfit-into : (size : ℕ) (o : outcome.Outcome (List ℕ)) (buffer : List ℕ) → (length buffer ≡ size → ⊥) → into size o buffer ≡ outcome.lent (outcome.refused 1) buffer
+unfit-into size o buffer ne = rw (ne-eqb (length buffer) size ne)
+
+pub unfit-refused : (n : ℕ) → UnfitRefused n
+unfolding built checksummed split.writing split.writeMessage split.writingPage split.writePage
+unfit-refused n = record {
+  taking-cells = λ s i ne. unfit-taken n s i (rw (ne-eqb (length (s .cells)) (cellsSize n) ne));
+  taking-output = λ s i ne. unfit-taken n s i (rw (ne-eqb (length (s .output)) mostOctets ne, or-true (not (eqb (length (s .cells)) (cellsSize n)))));
+  taking-record = λ s i e. unfit-taken n s i (rw (e, or-true (not (eqb (length (s .cells)) (cellsSize n)) || not (eqb (length (s .output)) mostOctets))));
+  building = λ k x buffer. unfit-into mostOctets (building k x) buffer;
+  checksum-octets = λ k c p buffer. unfit-into mostChecksum (checksumOctets k c p) buffer;
+  writing-user-data = λ k width reference p which buffer ne. rw (ne-eqb (length buffer) mostUserData ne);
+  writing-a-page = λ serial identifier dcs p which buffer ne. rw (ne-eqb (length buffer) pageOctets ne);
+  put = λ o at p l. (lt-leb (at + length p) (length o) l, rw (lt-leb (at + length p) (length o) l));
+}

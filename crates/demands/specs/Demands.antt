@@ -5,7 +5,7 @@ use Rattle.types.specs.declared.Kind.{Kind}
 use Rattle.packet.specs.Packets.{Fields}
 use Rattle.types.specs.declared.Key.{Key}
 use Rattle.slots.specs.Slots.{slotCount}
-use Rattle.demands.specs.Refusing.{TakingRefused, ParsingRefused, BuildingRefused, ChecksumRefused, WritingRefused, PageRefused}
+use Rattle.demands.specs.Refusing.{TakingRefused, ParsingRefused, BuildingRefused, ChecksumRefused, WritingRefused, PageRefused, UnfitRefused}
 use Rattle.demands.specs.Orders.{OrderFree}
 use Rattle.demands.specs.RoundTrips.{BuildThenRead, CommandTells, ReadThenBuild, ParsedIsFormed, BuildsOrRefuses, SplitMessages, SplitPages}
 use Rattle.demands.specs.Wake.{WakeWindow, PacketComes}
@@ -13,7 +13,8 @@ use Rattle.demands.specs.Always.{AlwaysFormed, NoKeyTwice}
 use Rattle.demands.specs.SplitTaken.{MessagesArrive, PagesArrive}
 
 -- 1. "Every entry point takes every input, does nothing undefined and ends": no public call asks anything of its caller, and each is proved.
--- "A refusal alters no lent buffer and no record", with one exception.
+-- "Bad input, bad buffers and a record that the library could not have made are refused by number. A refusal alters no lent buffer and no
+-- record", with one exception.
 pub record Demand1 : Type 0 where
   pub taking : TakingRefused slotCount
   pub parsing : ParsingRefused
@@ -21,6 +22,7 @@ pub record Demand1 : Type 0 where
   pub checksum-octets : ChecksumRefused
   pub writing-user-data : WritingRefused
   pub writing-a-page : PageRefused
+  pub unfit : UnfitRefused slotCount
 
 -- 2. The rules are 01's, and every public call equals its rule; "building then reading gives the same fields, and reading then building the
 -- same octets"; what is split is put together again; the order of a header's elements does not matter.

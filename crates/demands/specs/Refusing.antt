@@ -1,27 +1,47 @@
 -- Demand 1: "A refusal alters no lent buffer and no record; one exception: a complete series refused 9 is dropped." (01: "Refusal 9 on a
 -- complete series frees its slot; nothing else changes, then or on any other refusal.") Every entry point takes every input and ends: that is
 -- what the proof of each function says; here is what a refused call leaves.
-use Prim.Native.Nat.{ℕ}
+use Prim.Native.Nat.{ℕ, _+_, _<_}
 use mathlib.Core.Path.{_≡_}
-use mathlib.Core.Bool.{Bool, true}
+use mathlib.Core.Bool.{Bool, true, false}
 use mathlib.Core.List.{List, []}
+use lib.ListN.{length}
+use Rattle.octets.specs.Octets.{fitsAt, afterPut}
 use Rattle.types.specs.declared.Kind.{Kind}
 use Rattle.types.specs.Refusals as outcome
-use Rattle.packet.specs.Packets.{Fields, parsing, shownData, shownCheck, shownOpaque, built, checksummed}
+use Rattle.types.specs.Refusals.{lent}
+use Rattle.packet.specs.Packets.{mostOctets, mostChecksum, Fields, parsing, shownData, shownCheck, shownOpaque, built, checksummed}
 use Rattle.types.specs.declared.Key.{Key}
 use Rattle.arrival.specs.Arrivals.{part}
-use Rattle.slots.specs.Slots.{slotAt, freed, withSlots}
-use Rattle.series.specs.Taking.{State, refused, state, completes}
+use Rattle.arrival.specs.Message.{mostUserData}
+use Rattle.arrival.specs.Page.{pageOctets}
+use Rattle.slots.specs.Slots.{slotAt, heldAt, freed, withSlots}
+use Rattle.formed.specs.Formed.{recordFormed}
+use Rattle.series.specs.Cells.{cellsSize}
+use Rattle.series.specs.Taking.{State, refused, state, refuse, completes}
 use Rattle.series.specs.CaseLaws.{Bears}
 use Rattle.series.specs.Calls.{Input, read, take}
-use Rattle.split.specs.Splitting.{writeMessage, writePage}
+use Rattle.split.specs.Splitting.{written, writeMessage, writePage}
 
 -- ---- taking
--- what a call that was refused `number` left: all as it was; or, refused 9 where a part made a series complete, that series is dropped
+-- The call completes the series in that slot: it is read as a part of the slot's key and total, its number is not held, and with it none is
+-- missing.
+pub record Completes (n : ℕ) (s : State) (i : Input) (slot : ℕ) : Type 0 where
+  pub key : Key
+  pub total : ℕ
+  pub which : ℕ
+  pub start : ℕ
+  pub brings : read (s .rec .kind) i ≡ outcome.gives (part key total which start)
+  pub bears : Bears n (s .rec .slots) key slot
+  pub counted : slotAt (s .rec .slots) slot .total ≡ total
+  pub new : heldAt (slotAt (s .rec .slots) slot) which ≡ false
+  pub last : completes (slotAt (s .rec .slots) slot) which ≡ true
+
+-- What a call that was refused `number` left: all as it was, except where it completes a series and is refused 9; there that series is dropped,
+-- and nothing else changes.
 pub data Leaves (n : ℕ) (s : State) (i : Input) (number : ℕ) : State → Type 0 where
-  unaltered : Leaves n s i number s
-  dropped : number ≡ 9 → (key : Key) (total which start slot : ℕ) → read (s .rec .kind) i ≡ outcome.gives (part key total which start)
-      → Bears n (s .rec .slots) key slot → completes (slotAt (s .rec .slots) slot) which ≡ true
+  unaltered : (number ≡ 9 → (slot : ℕ) → Completes n s i slot → ⊥) → Leaves n s i number s
+  dropped : number ≡ 9 → (slot : ℕ) → Completes n s i slot
       → Leaves n s i number (state (withSlots (s .rec) (freed (s .rec .slots) slot)) (s .cells) (s .output))
 
 abbrev pub TakingRefused : ℕ → Type 0
@@ -53,3 +73,19 @@ pub record NothingShown (k : Kind) (c : Bool) (p : List ℕ) : Type 0 where
 
 abbrev pub ParsingRefused : Type 0
 ParsingRefused = (k : Kind) (c : Bool) (p : List ℕ) (number : ℕ) → parsing k c p ≡ outcome.refused number → NothingShown k c p
+
+-- ---- "bad buffers and a record that the library could not have made are refused by number"
+-- Each call that lends a buffer or takes a record: with a buffer of another length than 01's, or a record that is not well formed, it is
+-- refused 1, and everything stays as it was. `put` has no number for it: it says no, and writes nothing.
+pub record UnfitRefused (n : ℕ) : Type 0 where
+  pub taking-cells : (s : State) (i : Input) → (length (s .cells) ≡ cellsSize n → ⊥) → take n s i ≡ refuse 1 s
+  pub taking-output : (s : State) (i : Input) → (length (s .output) ≡ mostOctets → ⊥) → take n s i ≡ refuse 1 s
+  pub taking-record : (s : State) (i : Input) → recordFormed n (s .rec) ≡ false → take n s i ≡ refuse 1 s
+  pub building : (k : Kind) (x : Fields) (buffer : List ℕ) → (length buffer ≡ mostOctets → ⊥) → built k x buffer ≡ lent (outcome.refused 1) buffer
+  pub checksum-octets : (k : Kind) (c : Bool) (p buffer : List ℕ) → (length buffer ≡ mostChecksum → ⊥)
+      → checksummed k c p buffer ≡ lent (outcome.refused 1) buffer
+  pub writing-user-data : (k : Kind) (width reference : ℕ) (p : List ℕ) (which : ℕ) (buffer : List ℕ) → (length buffer ≡ mostUserData → ⊥)
+      → writeMessage k width reference p which buffer ≡ written (outcome.refused 1) buffer
+  pub writing-a-page : (serial identifier dcs : ℕ) (p : List ℕ) (which : ℕ) (buffer : List ℕ) → (length buffer ≡ pageOctets → ⊥)
+      → writePage serial identifier dcs p which buffer ≡ written (outcome.refused 1) buffer
+  pub put : (o : List ℕ) (at : ℕ) (p : List ℕ) → length o < at + length p → (fitsAt o at p ≡ false) × (afterPut o at p ≡ o)
