@@ -15,7 +15,7 @@ use Rattle.slots.specs.BelowLaws.{all-at, all-same}
 use Rattle.slots.specs.Slots.{sameKey}
 use Rattle.slots.specs.FrontLaws.{same-key, key-same}
 use Rattle.series.specs.Cells.{joined}
-use Rattle.demands.specs.Wake.{concat, elem, elemKey, add, addKey, complete}
+use Rattle.demands.specs.Wake.{concat, elem, elemKey, add, addKey, complete, firstSlot}
 
 -- ---- two keys, the same or not
 pub data Alike (a b : Key) : Type 0 where
@@ -43,6 +43,11 @@ add-old k l e = rw e
 
 pub add-not-nil : (k : ℕ) (l : List ℕ) → add k l ≡ [] → ⊥
 add-not-nil k l e = clash (elem k (add k l)) (elem-add k k l ∙ rw (eq-eqb k k refl)) (ap (elem k) e)
+
+-- behind the first part the slot stays
+pub first-known : (got : List ℕ) (this was : ℕ) → (got ≡ [] → ⊥) → firstSlot got this was ≡ was
+first-known [] this was begun = absurd (begun refl)
+first-known (m ∷ got) this was begun = refl
 
 -- with number k too, none is missing
 pub complete-add : (t k : ℕ) (got : List ℕ) → complete t (add k got) ≡ allBelow t (λ i. eqb (i + 1) k || elem (i + 1) got)

@@ -68,7 +68,7 @@ module _ (n : ℕ) (pos : 0 < n) (s : State) (i : Input) (number : ℕ) where
           dropped (cc) j (record { key = key; total = total; which = which; start = start; brings = r; bears = b; counted = t; new = h; last = c })
       go (some p) e = not-handed e
   part-left key total which start r st (more j b t h c) e = not-kept e
-  part-left key total which start r st (opens j l k z) e = not-kept e
+  part-left key total which start r st (opens j l k z lower) e = not-kept e
   part-left key total which start r st (displaces j l k z all) e = not-kept e
 
   read-left : Formed n (s .rec .kind) (s .rec .slots) → (r : outcome.Outcome Brought) → read (s .rec .kind) i ≡ r → Left (taken n s (isPage i) (octetsOf i) r)

@@ -47,7 +47,7 @@ complete-more t m got e = all-hold t (λ i. elem (i + 1) (add m got)) (λ i l. e
 
 module _ (n : ℕ) (pos : 0 < n) (k : Kind) (K : Key) (P : List ℕ) (parts : List (List ℕ)) (good : wellFormed k P ≡ true) (cut : Cut K P parts) (two : 2 ≤ length parts) where
   abbrev PhaseOf : Seen → Type 0
-  PhaseOf w = Phase n K parts (w .store .rec .slots) (w .store .cells) (w .got) (w .since)
+  PhaseOf w = Phase n K parts (w .store .rec .slots) (w .store .cells) (w .got) (w .slot) (w .since)
 
   -- ---- one call
   module _ (q : Seen) (w : Kept n k (q .store)) (c : Call) (p : Proper c) where
@@ -93,14 +93,13 @@ module _ (n : ℕ) (pos : 0 < n) (k : Kind) (K : Key) (P : List ℕ) (parts : Li
               fine-first n k K P parts good cut two q c (w .kind) formed-here (w .sound .size) number (drop start o) adm brought z lacks
               (step n s K (length parts) number (drop start o)) (case-here K (length parts) number start)
           go (during ne track) adm brought soon =
-              let (i, tr) = track (soon ne) in
-              fine-known n k K P parts good cut two q c (w .kind) formed-here (w .sound .size) number (drop start o) adm brought i (q .since) tr unfinished
+              fine-known n k K P parts good cut two q c (w .kind) formed-here (w .sound .size) number (drop start o) adm brought ne (q .since) (track (soon ne)) unfinished
               (step n s K (length parts) number (drop start o)) (case-here K (length parts) number start)
           go (done d) adm brought soon = absurd (clash (complete (length parts) (q .got)) d unfinished)
 
       -- any call
-      handed : (r : Record) (x : Option (List ℕ)) → Phase n K parts (r .slots) (q .store .cells) (q .got) (q .since)
-          → Phase n K parts (handOut s r x .state .rec .slots) (handOut s r x .state .cells) (q .got) (q .since)
+      handed : (r : Record) (x : Option (List ℕ)) → Phase n K parts (r .slots) (q .store .cells) (q .got) (q .slot) (q .since)
+          → Phase n K parts (handOut s r x .state .rec .slots) (handOut s r x .state .cells) (q .got) (q .slot) (q .since)
       handed r none h = h
       handed r (some x) h = h
 
@@ -117,7 +116,7 @@ module _ (n : ℕ) (pos : 0 < n) (k : Kind) (K : Key) (P : List ℕ) (parts : Li
               (own-part total number start (e ∙ ap (λ (Y : Key). reading.gives (part Y total number start)) x) d .phase)
       by-key X total number start e false same =
           other-part n K parts k s formed-here (w .sound .size) X (λ x. clash (sameKey X K) (key-same X K x) same) total number (drop start o)
-          (admits k c (p .octets) X total number start e) (q .got) (q .since) (step n s X total number (drop start o)) (case-here X total number start) ph
+          (admits k c (p .octets) X total number start e) (q .got) (q .slot) (q .since) (step n s X total number (drop start o)) (case-here X total number start) ph
 
       given : (r : reading.Outcome Brought) → read k (c .input) ≡ r → Given r (taken n s (isPage (c .input)) o r)
       given r e = (λ t m st eq u. subst (λ (r : reading.Outcome Brought). Serves n k K P parts q c m (taken n s (isPage (c .input)) o r)) (sym eq) (own-part t m st (e ∙ eq) u), phase r e)

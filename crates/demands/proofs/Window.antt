@@ -30,12 +30,12 @@ use Rattle.formed.specs.Laws.{Formed, UsedSlot, slot-tells}
 use Rattle.series.specs.PartLaws.{total-bounds}
 use Rattle.series.specs.Cells.{cellOctets, cellsSize, cellAt, cellPart, partOf, joinedOctets}
 use Rattle.series.specs.CellLaws.{part-by-length, cell-there}
-use Rattle.series.specs.Taking.{State, After, state, Step, repeats, keeps, finishes, completes, acted, handOut}
+use Rattle.series.specs.Taking.{State, After, state, heldAlready, Step, repeats, keeps, finishes, completes, acted, handOut}
 use Rattle.series.specs.CaseLaws.{Bears, Lacks, Case, other-total, other-octets, again, last, more, opens, displaces}
 use Rattle.series.specs.KeepLaws.{short}
 use Rattle.demands.specs.Runs.{Call}
-use Rattle.demands.specs.Wake.{concat, Cut, messages, pages, elem, elemKey, add, addKey, complete, counts, Seen, Repeated, Waits, Wakes}
-use Rattle.demands.proofs.Lists.{add-old, add-not-nil, complete-add, one-short, elem-key-add, elem-key-self, length-add-key, pigeon, joined-parts}
+use Rattle.demands.specs.Wake.{concat, Cut, messages, pages, elem, elemKey, add, addKey, complete, counts, slotOf, Seen, firstSlot, NewPlace, lowest-free, least-recent, Repeated, Waits, Wakes}
+use Rattle.demands.proofs.Lists.{add-old, add-not-nil, first-known, complete-add, one-short, elem-key-add, elem-key-self, length-add-key, pigeon, joined-parts}
 use Rattle.demands.proofs.Track.{aged-mono, closed-mono, length-short, Track, lacks-moved, track-moved, track-again, track-kept}
 
 -- ---- the packet that the parts hold
@@ -52,61 +52,58 @@ packet-in k K P parts good (pages m filler e allowed) =
 
 module _ (n : ℕ) (K : Key) (parts : List (List ℕ)) where
   -- ---- how far the key's series has come
-  pub data Phase (xs : List Slot) (cells : List ℕ) (got : List ℕ) (since : List Key) : Type 0 where
-    before : got ≡ [] → Lacks n xs K → Phase xs cells got since
-    during : (got ≡ [] → ⊥) → (length since < n → (i : ℕ) × Track n K parts xs cells i got since) → Phase xs cells got since
-    done : complete (length parts) got ≡ true → Phase xs cells got since
+  -- and, once it has begun, that it is in slot i, which its first answer named
+  pub data Phase (xs : List Slot) (cells : List ℕ) (got : List ℕ) (i : ℕ) (since : List Key) : Type 0 where
+    before : got ≡ [] → Lacks n xs K → Phase xs cells got i since
+    during : (got ≡ [] → ⊥) → (length since < n → Track n K parts xs cells i got since) → Phase xs cells got i since
+    done : complete (length parts) got ≡ true → Phase xs cells got i since
 
   -- ---- a call with another key
   module _ (k : Kind) (xs : List Slot) (cells : List ℕ) (w : Formed n k xs) (long : length cells ≡ cellsSize n) (X : Key) (ne : X ≡ K → ⊥)
-      (got : List ℕ) (since : List Key) where
+      (got : List ℕ) (i : ℕ) (since : List Key) where
     -- a slot that bears another key is another slot
-    elsewhere : (i j : ℕ) → Bears n xs K i → slotAt xs j .key ≡ X → i ≡ j → ⊥
-    elsewhere i j b e p = ne (sym e ∙ ap (λ (l : ℕ). slotAt xs l .key) (sym p) ∙ b .key)
+    elsewhere : (j : ℕ) → Bears n xs K i → slotAt xs j .key ≡ X → i ≡ j → ⊥
+    elsewhere j b e p = ne (sym e ∙ ap (λ (l : ℕ). slotAt xs l .key) (sym p) ∙ b .key)
 
     -- slot j comes to the front, with the key X
     fronted : (j : ℕ) → j < n → (y : Slot) → y .key ≡ X → (cells′ : List ℕ)
-        → ((i m : ℕ) → (i ≡ j → ⊥) → 1 ≤ m → m ≤ mostParts → lengthAt (slotAt xs i) m ≤ cellOctets
+        → ((m : ℕ) → (i ≡ j → ⊥) → 1 ≤ m → m ≤ mostParts → lengthAt (slotAt xs i) m ≤ cellOctets
         → cellPart cells′ (slotAt (toFront xs j y) i) i m ≡ cellPart cells (slotAt xs i) i m)
-        → ((i : ℕ) → length (addKey X since) < n → Track n K parts xs cells i got since → i ≡ j → ⊥)
-        → Phase xs cells got since → Phase (toFront xs j y) cells′ got (addKey X since)
+        → (length (addKey X since) < n → Track n K parts xs cells i got since → i ≡ j → ⊥)
+        → Phase xs cells got i since → Phase (toFront xs j y) cells′ got i (addKey X since)
     fronted j inside y e cells′ stay apart (before z lacks) =
         before z (lacks-moved n K parts xs (toFront xs j y) j (aged (slotAt xs j .rank)) (aged-taken (slotAt xs j .rank)) (aged-mono (slotAt xs j .rank)) (front-there xs j y) lacks
         (λ u q. ne (sym e ∙ ap (λ (x : Slot). x .key) (sym (front-here xs j y (omega (arith, w .size)))) ∙ q)))
     fronted j inside y e cells′ stay apart (during z track) =
         during z (λ few.
-        let (i, tr) = track (omega (arith, length-add-key X since)) in
-        let here : slotAt (toFront xs j y) j ≡ atRank 1 y = front-here xs j y (omega (arith, w .size)) in (
-          i,
-          track-moved n K parts xs (toFront xs j y) j (aged (slotAt xs j .rank)) (aged-taken (slotAt xs j .rank)) (aged-mono (slotAt xs j .rank)) (front-there xs j y)
-              cells cells′ i got since (addKey X since) (apart i few tr) tr (λ Y. elem-key-add X Y since)
-              (λ u. rw (here, e) (elem-key-self X since))
-              (λ m a b. stay i m (apart i few tr) a b (length-short k (slotAt xs i) (slot-tells k (slotAt xs i) (w .slots i (tr .bears .inside)) (tr .bears .used)) m a b)),
-        ))
+        let tr = track (omega (arith, length-add-key X since)) in
+        let here : slotAt (toFront xs j y) j ≡ atRank 1 y = front-here xs j y (omega (arith, w .size)) in
+        track-moved n K parts xs (toFront xs j y) j (aged (slotAt xs j .rank)) (aged-taken (slotAt xs j .rank)) (aged-mono (slotAt xs j .rank)) (front-there xs j y)
+        cells cells′ i got since (addKey X since) (apart few tr) tr (λ Y. elem-key-add X Y since)
+        (λ u. rw (here, e) (elem-key-self X since))
+        (λ m a b. stay m (apart few tr) a b (length-short k (slotAt xs i) (slot-tells k (slotAt xs i) (w .slots i (tr .bears .inside)) (tr .bears .used)) m a b)))
     fronted j inside y e cells′ stay apart (done z) = done z
 
     -- slot j, which bears X, is freed
-    freed-phase : (j : ℕ) → j < n → 0 < slotAt xs j .rank → slotAt xs j .key ≡ X → Phase xs cells got since → Phase (freed xs j) cells got since
+    freed-phase : (j : ℕ) → j < n → 0 < slotAt xs j .rank → slotAt xs j .key ≡ X → Phase xs cells got i since → Phase (freed xs j) cells got i since
     freed-phase j inside u e (before z lacks) =
         before z (lacks-moved n K parts xs (freed xs j) j (closed (slotAt xs j .rank)) (λ q. closed-taken (slotAt xs j .rank) q u) (closed-mono (slotAt xs j .rank)) (freed-there xs j) lacks
         (λ v q. omega (arith, ap (λ (x : Slot). x .rank) (freed-here xs j (omega (arith, w .size))))))
     freed-phase j inside u e (during z track) =
         during z (λ few.
-        let (i, tr) = track few in
-        let apart : i ≡ j → ⊥ = elsewhere i j (tr .bears) e in (
-          i,
-          track-moved n K parts xs (freed xs j) j (closed (slotAt xs j .rank)) (λ q. closed-taken (slotAt xs j .rank) q u) (closed-mono (slotAt xs j .rank)) (freed-there xs j)
-              cells cells i got since since apart tr (λ Y h. h)
-              (λ v. absurd (omega (arith, ap (λ (x : Slot). x .rank) (freed-here xs j (omega (arith, w .size))))))
-              (λ m a b. part-by-length cells (slotAt (freed xs j) i) (slotAt xs i) i m (ap (λ (x : Slot). lengthAt x m) (freed-there xs j i apart))),
-        ))
+        let tr = track few in
+        let apart : i ≡ j → ⊥ = elsewhere j (tr .bears) e in
+        track-moved n K parts xs (freed xs j) j (closed (slotAt xs j .rank)) (λ q. closed-taken (slotAt xs j .rank) q u) (closed-mono (slotAt xs j .rank)) (freed-there xs j)
+        cells cells i got since since apart tr (λ Y h. h)
+        (λ v. absurd (omega (arith, ap (λ (x : Slot). x .rank) (freed-here xs j (omega (arith, w .size))))))
+        (λ m a b. part-by-length cells (slotAt (freed xs j) i) (slotAt xs i) i m (ap (λ (x : Slot). lengthAt x m) (freed-there xs j i apart))))
     freed-phase j inside u e (done z) = done z
 
     -- THE HEART: the slot of the key is displaced only after n other keys. All other slots are more recent than it, so their keys, all
     -- different, have come since its last call, and X, which is none of them, comes now.
-    window : (i : ℕ) → Track n K parts xs cells i got since → Lacks n xs X → slotAt xs i .rank ≡ n → ((j : ℕ) → j < n → 0 < slotAt xs j .rank)
+    window : Track n K parts xs cells i got since → Lacks n xs X → slotAt xs i .rank ≡ n → ((j : ℕ) → j < n → 0 < slotAt xs j .rank)
         → n ≤ length (addKey X since)
-    window i tr lacks full all = pigeon n key (addKey X since) (λ j l. here j l (same? j i)) (λ j m l l′ e. apart j m l l′ e (same? j i) (same? m i))
+    window tr lacks full all = pigeon n key (addKey X since) (λ j l. here j l (same? j i)) (λ j m l l′ e. apart j m l l′ e (same? j i) (same? m i))
       where
         key : ℕ → Key
         key j = cond (eqb j i) X (slotAt xs j .key)
@@ -128,54 +125,54 @@ module _ (n : ℕ) (K : Key) (parts : List (List ℕ)) where
         apart j m l l′ q (other e p) (other f g) = w .keys j m l l′ (all j l) (all m l′) (simp (e, f) at q)
 
   module _ (k : Kind) (s : State) (w : Formed n k (s .rec .slots)) (long : length (s .cells) ≡ cellsSize n) (X : Key) (ne : X ≡ K → ⊥) (total number : ℕ) (o : List ℕ)
-      (adm : Admitted k X total number o) (got : List ℕ) (since : List Key) where
+      (adm : Admitted k X total number o) (got : List ℕ) (i : ℕ) (since : List Key) where
     abbrev xs : List Slot
     xs = s .rec .slots
 
     abbrev PhaseAfter : After → Type 0
-    PhaseAfter a = Phase (a .state .rec .slots) (a .state .cells) got (cond (counts (a .answer)) (addKey X since) since)
+    PhaseAfter a = Phase (a .state .rec .slots) (a .state .cells) got i (cond (counts (a .answer)) (addKey X since) since)
 
     -- the part is written to the cells of slot j: those of every other slot stay
-    written : (j : ℕ) → j < n → (y : Slot) (i m : ℕ) → (i ≡ j → ⊥) → 1 ≤ m → m ≤ mostParts → lengthAt (slotAt xs i) m ≤ cellOctets
+    written : (j : ℕ) → j < n → (y : Slot) (m : ℕ) → (i ≡ j → ⊥) → 1 ≤ m → m ≤ mostParts → lengthAt (slotAt xs i) m ≤ cellOctets
         → cellPart (placed (s .cells) (cellAt j number) o) (slotAt (toFront xs j y) i) i m ≡ cellPart (s .cells) (slotAt xs i) i m
-    written j l y i m ne′ a b small =
+    written j l y m ne′ a b small =
         cell-there n (s .cells) long j number l (adm .low) (omega (arith, adm .high, total-bounds X total (adm .totalFits))) o (short X number (length o) (adm .lengthFits))
         (slotAt (toFront xs j y) i) (slotAt xs i) i m a b (ap (λ (x : Slot). lengthAt x m) (front-there xs j y i ne′)) small (inl ne′)
 
-    kept-phase : (j : ℕ) → j < n → (d : Bool) (x : Slot) → x .key ≡ X → ((i : ℕ) → length (addKey X since) < n → Track n K parts xs (s .cells) i got since → i ≡ j → ⊥)
-        → Phase xs (s .cells) got since → PhaseAfter (acted n s X total number o (keeps j d x))
+    kept-phase : (j : ℕ) → j < n → (d : Bool) (x : Slot) → x .key ≡ X → (length (addKey X since) < n → Track n K parts xs (s .cells) i got since → i ≡ j → ⊥)
+        → Phase xs (s .cells) got i since → PhaseAfter (acted n s X total number o (keeps j d x))
     kept-phase j l d x e apart =
-        fronted k xs (s .cells) w long X ne got since j l (withPart x number (length o)) e (placed (s .cells) (cellAt j number) o) (written j l (withPart x number (length o))) apart
+        fronted k xs (s .cells) w long X ne got i since j l (withPart x number (length o)) e (placed (s .cells) (cellAt j number) o) (written j l (withPart x number (length o))) apart
 
-    handed-phase : (r : List Slot) (p : Option (List ℕ)) → Phase r (s .cells) got since → PhaseAfter (handOut s (withSlots (s .rec) r) p)
+    handed-phase : (r : List Slot) (p : Option (List ℕ)) → Phase r (s .cells) got i since → PhaseAfter (handOut s (withSlots (s .rec) r) p)
     handed-phase r none ph = ph
     handed-phase r (some p) ph = ph
 
-    pub other-part : (st : Step) → Case n s X total number o st → Phase xs (s .cells) got since → PhaseAfter (acted n s X total number o st)
+    pub other-part : (st : Step) → Case n s X total number o st → Phase xs (s .cells) got i since → PhaseAfter (acted n s X total number o st)
     other-part st (other-total j b t) ph = ph
     other-part st (other-octets j b t h c) ph = ph
     other-part st (again j b t h c) ph =
-        fronted k xs (s .cells) w long X ne got since j (b .inside) (slotAt xs j) (b .key) (s .cells)
-        (λ i m apart a l small. part-by-length (s .cells) (slotAt (toFront xs j (slotAt xs j)) i) (slotAt xs i) i m (ap (λ (x : Slot). lengthAt x m) (front-there xs j (slotAt xs j) i apart)))
-        (λ i few tr. elsewhere k xs (s .cells) w long X ne got since i j (tr .bears) (b .key)) ph
+        fronted k xs (s .cells) w long X ne got i since j (b .inside) (slotAt xs j) (b .key) (s .cells)
+        (λ m apart a l small. part-by-length (s .cells) (slotAt (toFront xs j (slotAt xs j)) i) (slotAt xs i) i m (ap (λ (x : Slot). lengthAt x m) (front-there xs j (slotAt xs j) i apart)))
+        (λ few tr. elsewhere k xs (s .cells) w long X ne got i since j (tr .bears) (b .key)) ph
     other-part st (last j b t h c) ph =
         handed-phase (freed xs j) (packetIn (s .rec .kind) (ofPages X) total (joinedOctets (s .cells) (slotAt xs j) j number o))
-        (freed-phase k xs (s .cells) w long X ne got since j (b .inside) (b .used) (b .key) ph)
+        (freed-phase k xs (s .cells) w long X ne got i since j (b .inside) (b .used) (b .key) ph)
     other-part st (more j b t h c) ph =
-        kept-phase j (b .inside) false (slotAt xs j) (b .key) (λ i few tr. elsewhere k xs (s .cells) w long X ne got since i j (tr .bears) (b .key)) ph
-    other-part st (opens j lacks l z) ph =
-        kept-phase j l false (opened X total) refl (λ i few tr p. omega (arith, tr .bears .used, ap (λ (m : ℕ). slotAt xs m .rank) p)) ph
+        kept-phase j (b .inside) false (slotAt xs j) (b .key) (λ few tr. elsewhere k xs (s .cells) w long X ne got i since j (tr .bears) (b .key)) ph
+    other-part st (opens j lacks l z lower) ph =
+        kept-phase j l false (opened X total) refl (λ few tr p. omega (arith, tr .bears .used, ap (λ (m : ℕ). slotAt xs m .rank) p)) ph
     other-part st (displaces j lacks l z all) ph =
         kept-phase j l true (opened X total) refl
-        (λ i few tr p. omega (arith, window k xs (s .cells) w long X ne got since i tr lacks (ap (λ (m : ℕ). slotAt xs m .rank) p ∙ z) all)) ph
+        (λ few tr p. omega (arith, window k xs (s .cells) w long X ne got i since tr lacks (ap (λ (m : ℕ). slotAt xs m .rank) p ∙ z) all)) ph
 
 -- ---- a call with the key
 -- what it comes to, and how far the series has come with it
 pub record Serves (n : ℕ) (k : Kind) (K : Key) (P : List ℕ) (parts : List (List ℕ)) (q : Seen) (c : Call) (number : ℕ) (a : After) : Type 0 where
   pub again : elem number (q .got) ≡ true → Repeated n k K P parts q c a
-  pub waits : elem number (q .got) ≡ false → complete (length parts) (add number (q .got)) ≡ false → Waits n k K P parts q c a
+  pub waits : elem number (q .got) ≡ false → complete (length parts) (add number (q .got)) ≡ false → Waits n k K P parts q c number a
   pub wakes : elem number (q .got) ≡ false → complete (length parts) (add number (q .got)) ≡ true → Wakes n k K P parts q c a
-  pub phase : Phase n K parts (a .state .rec .slots) (a .state .cells) (add number (q .got)) []
+  pub phase : Phase n K parts (a .state .rec .slots) (a .state .cells) (add number (q .got)) (firstSlot (q .got) (slotOf (a .answer)) (q .slot)) []
 
 module _ (n : ℕ) (k : Kind) (K : Key) (P : List ℕ) (parts : List (List ℕ)) (good : wellFormed k P ≡ true) (cut : Cut K P parts) (two : 2 ≤ length parts)
     (q : Seen) (c : Call) (kind : q .store .rec .kind ≡ k) (w : Formed n k (q .store .rec .slots)) (long : length (q .store .cells) ≡ cellsSize n)
@@ -199,18 +196,19 @@ module _ (n : ℕ) (k : Kind) (K : Key) (P : List ℕ) (parts : List (List ℕ))
   fine-kept : (i : ℕ) → i < n → (d : Bool) (x : Slot) → x .key ≡ K → x .total ≡ length parts → length (x .lengths) ≡ mostParts → length (x .held) ≡ mostParts
       → ((m : ℕ) → 1 ≤ m → m ≤ mostParts → heldAt x m ≡ elem m (q .got))
       → ((m : ℕ) → 1 ≤ m → m ≤ mostParts → elem m (q .got) ≡ true → (lengthAt x m ≤ cellOctets) × (cellPart (q .store .cells) x i m ≡ getD parts (m - 1) []))
-      → elem number (q .got) ≡ false → complete (length parts) (add number (q .got)) ≡ false → ((q .got ≡ [] → ⊥) → d ≡ false)
+      → elem number (q .got) ≡ false → complete (length parts) (add number (q .got)) ≡ false
+      → (q .got ≡ [] → NewPlace n own i d) → ((q .got ≡ [] → ⊥) → (i ≡ q .slot) × (d ≡ false)) → firstSlot (q .got) i (q .slot) ≡ i
       → Fine (acted n s K (length parts) number o (keeps i d x))
-  fine-kept i inside d x e t ls ms held octets new open′ first =
+  fine-kept i inside d x e t ls ms held octets new open′ first later named =
       let tr = track-kept n K parts k own (w .size) (q .store .cells) long i inside x e t ls ms (q .got) held octets number (adm .low) high o small brought in
       record {
         again = λ h. absurd (clash (elem number (q .got)) h new);
-        waits = λ h m. record { slot = i; displaced = d; bears = tr .bears; answer = refl; first = first; output = refl };
+        waits = λ h m. record { slot = i; displaced = d; answer = refl; first = first; later = later; bears = tr .bears; cells = ap (placed (q .store .cells) (cellAt i number)) brought; output = refl };
         wakes = λ h m. absurd (clash (complete (length parts) (add number (q .got))) m open′);
-        phase = during (add-not-nil number (q .got)) (λ few. (i, tr));
+        phase = rw named (during (add-not-nil number (q .got)) (λ few. tr));
       }
 
-  module _ (i : ℕ) (since : List Key) (tr : Track n K parts own (q .store .cells) i (q .got) since) where
+  module _ (i : ℕ) (is : i ≡ q .slot) (since : List Key) (tr : Track n K parts own (q .store .cells) i (q .got) since) where
     used-slot : UsedSlot k (slotAt own i)
     used-slot = slot-tells k (slotAt own i) (w .slots i (tr .bears .inside)) (tr .bears .used)
 
@@ -244,10 +242,10 @@ module _ (n : ℕ) (k : Kind) (K : Key) (P : List ℕ) (parts : List (List ℕ))
     fine-again : elem number (q .got) ≡ true → complete (length parts) (q .got) ≡ false → Fine (acted n s K (length parts) number o (repeats i))
     fine-again old open′ =
         let tr′ = track-again n K parts own (q .store .cells) i (q .got) since (w .size) tr in record {
-          again = λ h. record { slot = i; bears = tr′ .bears; answer = refl; cells = refl; output = refl };
+          again = λ h. record { answer = ap heldAlready is; bears = subst (Bears n (toFront own i (slotAt own i)) K) is (tr′ .bears); cells = refl; output = refl };
           waits = λ h m. absurd (clash (elem number (q .got)) old h);
           wakes = λ h m. absurd (clash (elem number (q .got)) old h);
-          phase = rw (add-old number (q .got) old) (during (λ e. not-none e) (λ few. (i, tr′)));
+          phase = rw (add-old number (q .got) old, first-known (q .got) i (q .slot) not-none, ← is) (during (λ e. not-none e) (λ few. tr′));
         }
       where
         not-none : q .got ≡ [] → ⊥
@@ -276,37 +274,39 @@ module _ (n : ℕ) (k : Kind) (K : Key) (P : List ℕ) (parts : List (List ℕ))
           phase = done full;
         })
 
-  -- the series is there, in slot i: every other case is impossible
-  module _ (i : ℕ) (since : List Key) (tr : Track n K parts own (q .store .cells) i (q .got) since) (unfinished : complete (length parts) (q .got) ≡ false) where
+  -- the series is there, in the slot of its first answer: every other case is impossible
+  module _ (begun : q .got ≡ [] → ⊥) (since : List Key) (tr : Track n K parts own (q .store .cells) (q .slot) (q .got) since) (unfinished : complete (length parts) (q .got) ≡ false) where
+    is : (j : ℕ) → Bears n own K j → j ≡ q .slot
+    is j b = w .keys j (q .slot) (b .inside) (tr .bears .inside) (b .used) (tr .bears .used) (b .key ∙ sym (tr .bears .key))
+
     here : (j : ℕ) → Bears n own K j → Track n K parts own (q .store .cells) j (q .got) since
-    here j b =
-        subst (λ (m : ℕ). Track n K parts own (q .store .cells) m (q .got) since)
-        (w .keys i j (tr .bears .inside) (b .inside) (tr .bears .used) (b .used) (tr .bears .key ∙ sym (b .key))) tr
+    here j b = subst (λ (m : ℕ). Track n K parts own (q .store .cells) m (q .got) since) (sym (is j b)) tr
 
     pub fine-known : (st : Step) → Case n s K (length parts) number o st → Fine (acted n s K (length parts) number o st)
     fine-known st (other-total j b t) = absurd (t (here j b .total))
     fine-known st (other-octets j b t h e) =
         let t′ = here j b in absurd (e (t′ .octets number (adm .low) high (sym (t′ .held number (adm .low) high) ∙ h) ∙ sym brought))
-    fine-known st (again j b t h e) = let t′ = here j b in fine-again j since t′ (sym (t′ .held number (adm .low) high) ∙ h) unfinished
-    fine-known st (last j b t h e) = let t′ = here j b in fine-last j since t′ (sym (t′ .held number (adm .low) high) ∙ h) (sym (told j since t′) ∙ e)
+    fine-known st (again j b t h e) = let t′ = here j b in fine-again j (is j b) since t′ (sym (t′ .held number (adm .low) high) ∙ h) unfinished
+    fine-known st (last j b t h e) = let t′ = here j b in fine-last j (is j b) since t′ (sym (t′ .held number (adm .low) high) ∙ h) (sym (told j (is j b) since t′) ∙ e)
     fine-known st (more j b t h e) =
         let t′ = here j b in
-        let u = used-slot j since t′ in
+        let u = used-slot j (is j b) since t′ in
         fine-kept j (b .inside) false (slotAt own j) (b .key) t (u .lengths) (u .marks) (t′ .held)
         (λ m a l d. (length-short k (slotAt own j) u m a l, t′ .octets m a l d))
-        (sym (t′ .held number (adm .low) high) ∙ h) (sym (told j since t′) ∙ e) (λ d. refl)
-    fine-known st (opens j lacks l z) = absurd (lacks i (tr .bears .inside) (tr .bears .used) (tr .bears .key))
-    fine-known st (displaces j lacks l z all) = absurd (lacks i (tr .bears .inside) (tr .bears .used) (tr .bears .key))
+        (sym (t′ .held number (adm .low) high) ∙ h) (sym (told j (is j b) since t′) ∙ e)
+        (λ none-yet. absurd (begun none-yet)) (λ ne. (is j b, refl)) (first-known (q .got) j (q .slot) begun ∙ sym (is j b))
+    fine-known st (opens j lacks l z lower) = absurd (lacks (q .slot) (tr .bears .inside) (tr .bears .used) (tr .bears .key))
+    fine-known st (displaces j lacks l z all) = absurd (lacks (q .slot) (tr .bears .inside) (tr .bears .used) (tr .bears .key))
 
   -- no slot bears the key yet
   module _ (none-yet : q .got ≡ []) (lacks : Lacks n own K) where
-    fine-new : (i : ℕ) → i < n → (d : Bool) → Fine (acted n s K (length parts) number o (keeps i d (opened K (length parts))))
-    fine-new i l d =
+    fine-new : (i : ℕ) → i < n → (d : Bool) → NewPlace n own i d → Fine (acted n s K (length parts) number o (keeps i d (opened K (length parts))))
+    fine-new i l d place =
         fine-kept i l d (opened K (length parts)) refl refl (length-replicate {A = ℕ} mostParts 0) (length-replicate mostParts false)
         (λ m a b. getD-replicate mostParts (m - 1) false false (omega arith) ∙ sym (ap (elem m) none-yet))
         (λ m a b e. absurd (clash false (ap (elem m) (sym none-yet) ∙ e) refl))
         (ap (elem number) none-yet) (ap (λ (l : List ℕ). complete (length parts) (add number l)) none-yet ∙ one-short (length parts) number two)
-        (λ e. absurd (e none-yet))
+        (λ e. place) (λ ne. absurd (ne none-yet)) (ap (λ (l : List ℕ). firstSlot l i (q .slot)) none-yet)
 
     nobody : (j : ℕ) → Bears n own K j → ⊥
     nobody j b = lacks j (b .inside) (b .used) (b .key)
@@ -317,5 +317,8 @@ module _ (n : ℕ) (k : Kind) (K : Key) (P : List ℕ) (parts : List (List ℕ))
     fine-first st (again j b t h e) = absurd (nobody j b)
     fine-first st (last j b t h e) = absurd (nobody j b)
     fine-first st (more j b t h e) = absurd (nobody j b)
-    fine-first st (opens j l a z) = fine-new j a false
-    fine-first st (displaces j l a z all) = fine-new j a true
+    fine-first st (opens j l a z lower) = fine-new j a false (lowest-free j a z lower)
+    fine-first st (displaces j l a z all) = fine-new j a true (least-recent j a (λ m h. (all m h, last-rank m h)))
+      where
+        last-rank : (m : ℕ) → m < n → slotAt own m .rank ≤ slotAt own j .rank
+        last-rank m h = omega (arith, rank-bound n (λ j. slotAt own j .rank) (w .ranks) m h, count-at-most n (taken (λ j. slotAt own j .rank)), z)

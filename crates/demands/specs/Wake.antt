@@ -6,6 +6,7 @@ use mathlib.Core.Bool.{Bool, true, false, cond, _||_}
 use mathlib.Core.List.{List, [], _∷_, _++_}
 use lib.ListN.{length, getD, drop}
 use lib.Dec.{eqb}
+use Rattle.octets.specs.Octets.{placed}
 use Rattle.types.specs.declared.Kind.{Kind}
 use Rattle.types.specs.Refusals as reading
 use Rattle.packet.specs.Packets.{wellFormed}
@@ -14,8 +15,9 @@ use Rattle.arrival.specs.Arrivals.{Brought, single, part}
 use Rattle.arrival.specs.Keys.{ofPages}
 use Rattle.joined.specs.Fronts.{pagesAllow}
 use Rattle.slots.specs.Below.{allBelow}
-use Rattle.slots.specs.Slots.{sameKey}
-use Rattle.series.specs.Cells.{cellsSize}
+use Rattle.types.specs.declared.Slot.{Slot}
+use Rattle.slots.specs.Slots.{slotAt, sameKey}
+use Rattle.series.specs.Cells.{cellsSize, cellAt}
 use Rattle.series.specs.Taking.{After, Answer, kept, heldAlready, packet, refused}
 use Rattle.series.specs.CaseLaws.{Bears, Lacks}
 use Rattle.series.specs.Calls.{read, octetsOf}
@@ -58,26 +60,46 @@ counts (heldAlready i) = true
 counts (packet m) = false
 counts (refused m) = false
 
--- What was seen before a call: what the calls before left; the numbers that calls with the key have brought; and the other keys that calls
--- answered "kept" or "held already" have borne since the last call with the key.
+-- the slot that an answer names
+abbrev pub slotOf : Answer → ℕ
+slotOf (kept i d) = i
+slotOf (heldAlready i) = i
+slotOf (packet m) = 0
+slotOf (refused m) = 0
+
+-- What was seen before a call: what the calls before left; the numbers that calls with the key have brought, and the slot that the first of
+-- them was answered with; and the other keys that calls answered "kept" or "held already" have borne since the last call with the key.
 pub record Seen : Type 0 where
   pub store : Store
   pub got : List ℕ
+  pub slot : ℕ
   pub since : List Key
 
 abbrev pub nothingSeen : Store → Seen
-nothingSeen st = record { store = st; got = []; since = [] }
+nothingSeen st = record { store = st; got = []; slot = 0; since = [] }
+
+-- the slot of the first answer: this one's where nothing had come before, and else the one that it was
+abbrev pub firstSlot : List ℕ → ℕ → ℕ → ℕ
+firstSlot [] this was = this
+firstSlot (m ∷ got) this was = was
+
+-- "A new key takes the lowest free slot; with none free it displaces the least recent series": the slot, and the mark of displacement
+pub data NewPlace (n : ℕ) (xs : List Slot) : ℕ → Bool → Type 0 where
+  lowest-free : (i : ℕ) → i < n → slotAt xs i .rank ≡ 0 → ((j : ℕ) → j < i → 0 < slotAt xs j .rank) → NewPlace n xs i false
+  least-recent : (i : ℕ) → i < n → ((j : ℕ) → j < n → (0 < slotAt xs j .rank) × (slotAt xs j .rank ≤ slotAt xs i .rank)) → NewPlace n xs i true
 
 module _ (n : ℕ) (k : Kind) (K : Key) where
   -- after a call that bears the key X and brings part `number`; the Boolean says whether X is K
   abbrev pub seenPart : Seen → After → Key → ℕ → Bool → Seen
-  seenPart w a X number true = record { store = left a; got = add number (w .got); since = [] }
-  seenPart w a X number false = record { store = left a; got = w .got; since = cond (counts (a .answer)) (addKey X (w .since)) (w .since) }
+  seenPart w a X number true =
+      record { store = left a; got = add number (w .got); slot = firstSlot (w .got) (slotOf (a .answer)) (w .slot); since = [] }
+  seenPart w a X number false =
+      record { store = left a; got = w .got; slot = w .slot; since = cond (counts (a .answer)) (addKey X (w .since)) (w .since) }
 
   -- Which call bears a key is told by reading its octets, never by its answer.
   abbrev pub seenAfter : Seen → After → reading.Outcome Brought → Seen
-  seenAfter w a (reading.refused m) = record { store = left a; got = w .got; since = w .since }
-  seenAfter w a (reading.gives (single start)) = record { store = left a; got = w .got; since = w .since }
+  seenAfter w a (reading.refused m) = record { store = left a; got = w .got; slot = w .slot; since = w .since }
+  seenAfter w a (reading.gives (single start)) = record { store = left a; got = w .got; slot = w .slot; since = w .since }
   seenAfter w a (reading.gives (part X total number start)) = seenPart w a X number (sameKey X K)
 
   abbrev pub seen : Seen → Call → Seen
@@ -103,21 +125,23 @@ module _ (n : ℕ) (k : Kind) (K : Key) where
       pub soon : (w .got ≡ [] → ⊥) → length (w .since) < n
 
     -- ---- conclusion
-    -- the number had come before: "held already" with the series' slot, cells and output as they were
+    -- the number had come before: "held already" with the slot of the first answer, cells and output as they were
     pub record Repeated (w : Seen) (c : Call) (a : After) : Type 0 where
-      pub slot : ℕ
-      pub bears : Bears n (a .state .rec .slots) K slot
-      pub answer : a .answer ≡ heldAlready slot
+      pub answer : a .answer ≡ heldAlready (w .slot)
+      pub bears : Bears n (a .state .rec .slots) K (w .slot)
       pub cells : a .state .cells ≡ w .store .cells
       pub output : a .state .output ≡ c .output
 
-    -- parts are still missing: "kept" with the series' slot, another series displaced at most at the first
-    pub record Waits (w : Seen) (c : Call) (a : After) : Type 0 where
+    -- Parts are still missing: "kept", at the first with the slot that a new key takes, and the mark of displacement if none is free; later
+    -- with the slot of the first answer, and no mark. The part's octets stand at the start of its cell.
+    pub record Waits (w : Seen) (c : Call) (number : ℕ) (a : After) : Type 0 where
       pub slot : ℕ
       pub displaced : Bool
-      pub bears : Bears n (a .state .rec .slots) K slot
       pub answer : a .answer ≡ kept slot displaced
-      pub first : (w .got ≡ [] → ⊥) → displaced ≡ false
+      pub first : w .got ≡ [] → NewPlace n (w .store .rec .slots) slot displaced
+      pub later : (w .got ≡ [] → ⊥) → (slot ≡ w .slot) × (displaced ≡ false)
+      pub bears : Bears n (a .state .rec .slots) K slot
+      pub cells : a .state .cells ≡ placed (w .store .cells) (cellAt slot number) (getD parts (number - 1) [])
       pub output : a .state .output ≡ c .output
 
     -- the last missing part: exactly the packet is handed out, and the key is held no more
@@ -129,7 +153,7 @@ module _ (n : ℕ) (k : Kind) (K : Key) where
 
     pub record Served (w : Seen) (c : Call) (total number start : ℕ) : Type 0 where
       pub again : elem number (w .got) ≡ true → Repeated w c (outcome n (w .store) c)
-      pub waits : elem number (w .got) ≡ false → complete (length parts) (add number (w .got)) ≡ false → Waits w c (outcome n (w .store) c)
+      pub waits : elem number (w .got) ≡ false → complete (length parts) (add number (w .got)) ≡ false → Waits w c number (outcome n (w .store) c)
       pub wakes : elem number (w .got) ≡ false → complete (length parts) (add number (w .got)) ≡ true → Wakes w c (outcome n (w .store) c)
 
 -- ---- the theorem

@@ -42,7 +42,8 @@ module _ (n : ℕ) (s : State) (key : Key) (total number : ℕ) (octets : List �
         → completes (slotAt (s .rec .slots) i) number ≡ true → Case (finishes i)
     more : (i : ℕ) → Bears n (s .rec .slots) key i → slotAt (s .rec .slots) i .total ≡ total → heldAt (slotAt (s .rec .slots) i) number ≡ false
         → completes (slotAt (s .rec .slots) i) number ≡ false → Case (keeps i false (slotAt (s .rec .slots) i))
-    opens : (i : ℕ) → Lacks n (s .rec .slots) key → i < n → slotAt (s .rec .slots) i .rank ≡ 0 → Case (keeps i false (opened key total))
+    opens : (i : ℕ) → Lacks n (s .rec .slots) key → i < n → slotAt (s .rec .slots) i .rank ≡ 0 → ((j : ℕ) → j < i → 0 < slotAt (s .rec .slots) j .rank)
+        → Case (keeps i false (opened key total))
     displaces : (i : ℕ) → Lacks n (s .rec .slots) key → i < n → slotAt (s .rec .slots) i .rank ≡ n
         → ((j : ℕ) → j < n → 0 < slotAt (s .rec .slots) j .rank) → Case (keeps i true (opened key total))
 
@@ -78,7 +79,7 @@ module _ (n : ℕ) (s : State) (key : Key) (total number : ℕ) (octets : List �
           absurd (eqb-false (at i .rank) n (f i (omega (arith, w .size))) e)
 
       case-new : (r : Option ℕ) → Found isFree (s .rec .slots) r → Case (stepNew n s key total number octets r)
-      case-new r (hit i l e f) = opens i lacks (omega (arith, w .size)) (eqb-true (at i .rank) 0 e)
+      case-new r (hit i l e f) = opens i lacks (omega (arith, w .size)) (eqb-true (at i .rank) 0 e) (λ j m. not-free j (f j m))
       case-new r (miss f) =
           case-least (λ j l. not-free j (f j (omega (arith, w .size)))) (find (isLeastRecent n) (s .rec .slots)) (find? (isLeastRecent n) (s .rec .slots))
 

@@ -104,7 +104,7 @@ module _ (n : ℕ) (pos : 0 < n) (s : State) (w : Sound n (s .rec) (s .cells)) w
         handed-sound n s (withSlots (s .rec) (freed xs i)) (packetIn k (ofPages key) total (joinedOctets (s .cells) (slotAt xs i) i number octets))
         (record { formed = free-formed n k xs (w .formed) i (b .inside) (b .used); size = w .size })
     case-sound st (more i b t h c) = kept-sound i (b .inside) false (slotAt xs i) (b .key) (more-formed i b t h c) (alone-there i b)
-    case-sound st (opens i lacks l z) = kept-sound i l false (opened key total) refl opened-formed (λ j m ne u q. lacks j m u q)
+    case-sound st (opens i lacks l z lower) = kept-sound i l false (opened key total) refl opened-formed (λ j m ne u q. lacks j m u q)
     case-sound st (displaces i lacks l z all) = kept-sound i l true (opened key total) refl opened-formed (λ j m ne u q. lacks j m u q)
 
     pub part-sound : SoundAfter n (takePart n s key total number octets)
