@@ -3,7 +3,8 @@ use Prim.Native.Nat.{ℕ, _<_}
 use mathlib.Core.Path.{_≡_, refl, sym, ap, _∙_, subst}
 use mathlib.Core.Bool.{Bool, true, false, cond, not, _||_}
 use mathlib.Core.List.{List, [], _∷_}
-use lib.ListN.{length, drop}
+use native.Mathlib.Omega.{arith}
+use lib.ListN.{length, drop, replicate, getD-replicate}
 use borrow.Author.Tests.{eq-eqb, eqb-true, not-false}
 use lib.Dec.{eqb}
 use Rattle.octets.specs.Tests.{neither}
@@ -13,6 +14,8 @@ use Rattle.packet.specs.Packets.{mostOctets}
 use Rattle.types.specs.declared.Key.{Key}
 use Rattle.arrival.specs.Arrivals.{part}
 use Rattle.arrival.specs.Laws.{Admitted}
+use Rattle.types.specs.declared.Slot.{Slot}
+use Rattle.slots.specs.Slots.{slotAt, freeSlot}
 use Rattle.formed.specs.Formed.{recordFormed}
 use Rattle.formed.specs.Laws.{Formed, formed-told, fresh-formed}
 use Rattle.series.specs.Cells.{cellsSize}
@@ -39,6 +42,10 @@ module _ (n : ℕ) (s : State) (w : Sound n (s .rec) (s .cells)) (size : length 
 
   pub taking : (i : Input) → take n s i ≡ taken n s (isPage i) (octetsOf i) (read (s .rec .kind) i)
   taking i = taking-any n s i ∙ rw fit
+
+-- ---- a fresh record holds no series
+pub fresh-free : (n j : ℕ) → j < n → 0 < slotAt (replicate n freeSlot) j .rank → ⊥
+fresh-free n j l u = let f : slotAt (replicate n freeSlot) j ≡ freeSlot = getD-replicate n j freeSlot _ l in omega (arith, ap (λ (x : Slot). x .rank) f)
 
 -- ---- what holds of every store that calls lead to
 pub record Kept (n : ℕ) (k : Kind) (st : Store) : Type 0 where
@@ -80,10 +87,10 @@ module _ (n : ℕ) (pos : 0 < n) (k : Kind) where
     kept-fresh cells size calls all = kept-run calls (fresh n k cells) (fresh-kept cells size) all
 
     -- and whatever lengths the buffers have: with others a call is refused 1, and leaves what it was given
-    abbrev Formed′ : Store → Type 0
+    abbrev pub Formed′ : Store → Type 0
     Formed′ st = (st .rec .kind ≡ k) × Formed n k (st .rec .slots)
 
-    formed-call : (st : Store) → Formed′ st → (c : Call) → Octets (octetsOf (c .input)) → Formed′ (left (outcome n st c))
+    pub formed-call : (st : Store) → Formed′ st → (c : Call) → Octets (octetsOf (c .input)) → Formed′ (left (outcome n st c))
     formed-call st (e, w) c bytes =
         subst (λ (a : After). Formed′ (left a)) (sym (taking-any n s (c .input))) (go (unfit n s) refl)
       where

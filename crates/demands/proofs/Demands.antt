@@ -5,6 +5,7 @@ use Rattle.slots.specs.Slots.{slotCount}
 use Rattle.demands.specs.Demands.{Demand1, Demand2, Demand3}
 use Rattle.demands.proofs.Calls as calls
 use Rattle.demands.proofs.Wake as wake
+use Rattle.demands.proofs.Crowding as crowding
 use Rattle.demands.proofs.Refusing as refusing
 use Rattle.demands.proofs.Orders as orders
 use Rattle.demands.proofs.RoundTrips as trips
@@ -44,4 +45,5 @@ demand-3 = record {
   packet-comes = wake.packet-comes slotCount some;
   always-formed = λ k. calls.always-formed slotCount some k (wake.admits k);
   no-key-twice = λ k. calls.no-key-twice slotCount some k (wake.admits k);
+  never-displaced = crowding.never-displaced slotCount some;
 }

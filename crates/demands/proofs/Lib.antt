@@ -5,6 +5,7 @@ pub mod Calls
 pub mod Track
 pub mod Window
 pub mod Wake
+pub mod Crowding
 pub mod Refusing
 pub mod Tightness
 pub mod Reached

@@ -12,9 +12,12 @@ use Rattle.octets.specs.Tests.{clash, Same, same, other, same?}
 use Rattle.types.specs.declared.Key.{Key}
 use Rattle.slots.specs.Below.{allBelow}
 use Rattle.slots.specs.BelowLaws.{all-at, all-same}
-use Rattle.slots.specs.Slots.{sameKey}
 use Rattle.slots.specs.FrontLaws.{same-key, key-same}
+use Rattle.types.specs.declared.Slot.{Slot}
+use Rattle.slots.specs.Slots.{slotAt, sameKey}
 use Rattle.series.specs.Cells.{joined}
+use Rattle.series.specs.CaseLaws.{Lacks}
+use Rattle.demands.specs.Crowding.{dropKey}
 use Rattle.demands.specs.Wake.{concat, elem, elemKey, add, addKey, complete, firstSlot}
 
 -- ---- two keys, the same or not
@@ -99,26 +102,21 @@ length-add-key X l = go (elemKey X l)
     go true = omega arith
     go false = omega arith
 
--- the first X taken out
-abbrev remove : Key → List Key → List Key
-remove X [] = []
-remove X (Y ∷ l) = cond (sameKey X Y) l (Y ∷ remove X l)
-
-elem-remove : (X Y : Key) (l : List Key) → (Y ≡ X → ⊥) → elemKey Y l ≡ true → elemKey Y (remove X l) ≡ true
-elem-remove X Y [] ne h = h
-elem-remove X Y (Z ∷ l) ne h = go (elem-remove X Y l ne) (alike? X Z) (alike? Y Z)
+pub elem-dropped : (X Y : Key) (l : List Key) → (Y ≡ X → ⊥) → elemKey Y l ≡ true → elemKey Y (dropKey X l) ≡ true
+elem-dropped X Y [] ne h = h
+elem-dropped X Y (Z ∷ l) ne h = go (elem-dropped X Y l ne) (alike? X Z) (alike? Y Z)
   where
-    go : (elemKey Y l ≡ true → elemKey Y (remove X l) ≡ true) → Alike X Z → Alike Y Z → elemKey Y (remove X (Z ∷ l)) ≡ true
+    go : (elemKey Y l ≡ true → elemKey Y (dropKey X l) ≡ true) → Alike X Z → Alike Y Z → elemKey Y (dropKey X (Z ∷ l)) ≡ true
     go ih (alike e p) (alike f q) = absurd (ne (q ∙ sym p))
     go ih (alike e p) (unlike f q) = simp e (simp f at h)
     go ih (unlike e p) (alike f q) = simp (e, f)
     go ih (unlike e p) (unlike f q) = simp (e, f) (ih (simp f at h))
 
-length-remove : (X : Key) (l : List Key) → elemKey X l ≡ true → suc (length (remove X l)) ≡ length l
-length-remove X [] h = absurd (clash false h refl)
-length-remove X (Z ∷ l) h = go (length-remove X l) (alike? X Z)
+length-dropped : (X : Key) (l : List Key) → elemKey X l ≡ true → suc (length (dropKey X l)) ≡ length l
+length-dropped X [] h = absurd (clash false h refl)
+length-dropped X (Z ∷ l) h = go (length-dropped X l) (alike? X Z)
   where
-    go : (elemKey X l ≡ true → suc (length (remove X l)) ≡ length l) → Alike X Z → suc (length (remove X (Z ∷ l))) ≡ suc (length l)
+    go : (elemKey X l ≡ true → suc (length (dropKey X l)) ≡ length l) → Alike X Z → suc (length (dropKey X (Z ∷ l))) ≡ suc (length l)
     go ih (alike e p) = simp e
     go ih (unlike e p) = simp e (ap suc (ih (simp e at h)))
 
@@ -127,12 +125,24 @@ pub pigeon : (n : ℕ) (f : ℕ → Key) (l : List Key) → ((j : ℕ) → j < n
     → ((i j : ℕ) → i < n → j < n → f i ≡ f j → i ≡ j) → n ≤ length l
 pigeon zero f l all apart = omega arith
 pigeon (suc n) f l all apart =
-    let fewer : n ≤ length (remove (f n) l) =
-    pigeon n f (remove (f n) l) (λ j h. elem-remove (f n) (f j) l (λ e. differ j h e) (all j (omega arith))) (λ i j h g. apart i j (omega arith) (omega arith)) in
-    omega (arith, length-remove (f n) l (all n (omega arith)))
+    let fewer : n ≤ length (dropKey (f n) l) =
+    pigeon n f (dropKey (f n) l) (λ j h. elem-dropped (f n) (f j) l (λ e. differ j h e) (all j (omega arith))) (λ i j h g. apart i j (omega arith) (omega arith)) in
+    omega (arith, length-dropped (f n) l (all n (omega arith)))
   where
     differ : (j : ℕ) → j < n → f j ≡ f n → ⊥
     differ j h e = let q : j ≡ n = apart j n (omega arith) (omega arith) e in omega arith
+
+-- The keys of the slots, all used, and a key that they lack in the place i of one of them or behind them: all m are different.
+pub keys-apart : (n m i : ℕ) (xs : List Slot) (X : Key) → ((j : ℕ) → j < m → (j ≡ i → ⊥) → j < n) → ((j : ℕ) → j < n → 0 < slotAt xs j .rank)
+    → ((j l : ℕ) → j < n → l < n → 0 < slotAt xs j .rank → 0 < slotAt xs l .rank → slotAt xs j .key ≡ slotAt xs l .key → j ≡ l) → Lacks n xs X
+    → (j l : ℕ) → j < m → l < m → cond (eqb j i) X (slotAt xs j .key) ≡ cond (eqb l i) X (slotAt xs l .key) → j ≡ l
+keys-apart n m i xs X inside all keys lacks j l a b q = go (same? j i) (same? l i)
+  where
+    go : Same j i → Same l i → j ≡ l
+    go (same e p) (same f g) = p ∙ sym g
+    go (same e p) (other f g) = absurd (lacks l (inside l b g) (all l (inside l b g)) (sym (simp (e, f) at q)))
+    go (other e p) (same f g) = absurd (lacks j (inside j a p) (all j (inside j a p)) (simp (e, f) at q))
+    go (other e p) (other f g) = keys j l (inside j a p) (inside l b g) (all j (inside j a p)) (all l (inside l b g)) (simp (e, f) at q)
 
 -- ---- parts that join to the packet
 pub concat-last : (ps : List (List ℕ)) (p : List ℕ) → concat (ps ++ (p ∷ [])) ≡ concat ps ++ p

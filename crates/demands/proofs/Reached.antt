@@ -4,7 +4,7 @@ use mathlib.Core.Path.{_≡_, refl, sym, ap, subst}
 use mathlib.Core.Bool.{Bool, true, false}
 use mathlib.Core.List.{List, [], _∷_, nil≢cons, head-eq-of-cons-eq, tail-eq-of-cons-eq}
 use native.Mathlib.Omega.{arith}
-use lib.ListN.{length, getD, replicate, length-replicate, getD-replicate, List·getD-eq-default}
+use lib.ListN.{length, getD, length-replicate, List·getD-eq-default}
 use lib.Dec.{ltb}
 use borrow.Author.Tests.{ltb-true, ltb-false}
 use Rattle.octets.specs.Octets.{sameOctets, placed}
@@ -19,10 +19,9 @@ use Rattle.header.specs.Header.{elementsAfter, summary}
 use Rattle.arrival.specs.Message.{judged, readMessage}
 use Rattle.arrival.specs.Keys.{keyFormed, lengthFits}
 use Rattle.joined.specs.Fronts.{packetIn}
-use Rattle.types.specs.declared.Slot.{Slot}
 use Rattle.slots.specs.Below.{allBelow, anyBelow, countBelow}
 use Rattle.slots.specs.BelowLaws.{all-at}
-use Rattle.slots.specs.Slots.{slotCount, slotAt, freeSlot, find, aged, closed, toFront, freed}
+use Rattle.slots.specs.Slots.{slotCount, find, aged, closed, toFront, freed}
 use Rattle.formed.specs.Formed.{allZero, usedFormed, slotFormed, keysDiffer, ranked, slotsFormed}
 use Rattle.series.specs.Cells.{cellsSize, cellPart, joinedOctets}
 use Rattle.series.specs.Taking.{step, takePart, takeMessage, packet}
@@ -30,6 +29,7 @@ use Rattle.series.specs.Calls.{read}
 use Rattle.demands.specs.Examples.{M}
 use Rattle.demands.specs.Runs.{Call, fresh, outcome, run, Octets, Proper, Each}
 use Rattle.demands.specs.Wake.{messages, complete, Seen, seen, follow, EachWith, Fair, begin}
+use Rattle.demands.proofs.Calls.{fresh-free}
 use Rattle.demands.specs.Reached.{key, halves, call, first, second, other, cells, two, Met, Missed}
 
 -- ---- a list that is written out, call by call
@@ -116,9 +116,6 @@ module _ (b : ℕ) where
   unfolding allBelow
   all-proper = (proper 1 _ refl, (proper 2 _ refl, (proper 3 _ refl, (proper 1 _ refl, tt))))
 
-  nobody : (j : ℕ) → j < slotCount → 0 < slotAt (replicate slotCount freeSlot) j .rank → ⊥
-  nobody j l u = let f : slotAt (replicate slotCount freeSlot) j ≡ freeSlot = getD-replicate slotCount j freeSlot _ l in omega (arith, ap (λ (x : Slot). x .rank) f)
-
   pub met : Met b
   met = record {
     start = record {
@@ -128,7 +125,7 @@ module _ (b : ℕ) where
       size = length-replicate (cellsSize slotCount) b;
       before = each Proper [] tt;
       proper = each Proper (two b) all-proper;
-      lacks = λ j l u e. nobody j l u;
+      lacks = λ j l u e. fresh-free slotCount j l u;
     };
     fair = each-with slotCount Command key 2 (Fair slotCount Command key M halves) (two b) w₀
         (fair-first, (fair-other w₁ 2 (λ e. omega arith), (fair-other w₂ 3 (λ e. omega arith), (fair-second, tt))));

@@ -64,6 +64,21 @@ length-short k x w m low high = go (markAt x (m - 1)) (w .parts (m - 1) (omega a
     go true e = short (x .key) (m - 1 + 1) (sizeAt x (m - 1)) (both (ltb (m - 1) (x .total)) (lengthFits (x .key) (m - 1 + 1) (sizeAt x (m - 1))) e .1)
     go false e = omega (arith, eqb-true (sizeAt x (m - 1)) 0 e)
 
+-- ---- slot j becomes another, and each other slot keeps all but its rank
+module _ (xs ys : List Slot) (j : ℕ) (g : ℕ → ℕ) (same-used : (q : ℕ) → not (eqb (g q) 0) ≡ not (eqb q 0))
+    (there : (l : ℕ) → (l ≡ j → ⊥) → slotAt ys l ≡ atRank (g (slotAt xs l .rank)) (slotAt xs l)) where
+  pub rank-there : (l : ℕ) → (l ≡ j → ⊥) → slotAt ys l .rank ≡ g (slotAt xs l .rank)
+  rank-there l ne = ap (λ (x : Slot). x .rank) (there l ne)
+
+  pub key-there : (l : ℕ) → (l ≡ j → ⊥) → slotAt ys l .key ≡ slotAt xs l .key
+  key-there l ne = ap (λ (x : Slot). x .key) (there l ne)
+
+  pub used-before : (l : ℕ) → (l ≡ j → ⊥) → 0 < slotAt ys l .rank → 0 < slotAt xs l .rank
+  used-before l ne u = pos-taken (slotAt xs l .rank) (sym (same-used (slotAt xs l .rank)) ∙ ap (λ (q : ℕ). not (eqb q 0)) (sym (rank-there l ne)) ∙ rw (ne-eqb (slotAt ys l .rank) 0 (λ e. omega arith)))
+
+  pub used-after : (l : ℕ) → (l ≡ j → ⊥) → 0 < slotAt xs l .rank → 0 < slotAt ys l .rank
+  used-after l ne u = pos-taken (slotAt ys l .rank) (ap (λ (q : ℕ). not (eqb q 0)) (rank-there l ne) ∙ same-used (slotAt xs l .rank) ∙ rw (ne-eqb (slotAt xs l .rank) 0 (λ e. omega arith)))
+
 -- ---- the invariant
 module _ (n : ℕ) (K : Key) (parts : List (List ℕ)) where
   -- Slot i bears the key, with the parts that have come in its cells; whatever is more recent has come since the key's last call.
@@ -78,24 +93,12 @@ module _ (n : ℕ) (K : Key) (parts : List (List ℕ)) where
   -- Slot j becomes another and each other slot keeps all but its rank, in the same order.
   module _ (xs ys : List Slot) (j : ℕ) (g : ℕ → ℕ) (same-used : (q : ℕ) → not (eqb (g q) 0) ≡ not (eqb q 0)) (mono : (p q : ℕ) → p ≤ q → g p ≤ g q)
       (there : (l : ℕ) → (l ≡ j → ⊥) → slotAt ys l ≡ atRank (g (slotAt xs l .rank)) (slotAt xs l)) where
-    rank-there : (l : ℕ) → (l ≡ j → ⊥) → slotAt ys l .rank ≡ g (slotAt xs l .rank)
-    rank-there l ne = ap (λ (x : Slot). x .rank) (there l ne)
-
-    key-there : (l : ℕ) → (l ≡ j → ⊥) → slotAt ys l .key ≡ slotAt xs l .key
-    key-there l ne = ap (λ (x : Slot). x .key) (there l ne)
-
-    used-before : (l : ℕ) → (l ≡ j → ⊥) → 0 < slotAt ys l .rank → 0 < slotAt xs l .rank
-    used-before l ne u = pos-taken (slotAt xs l .rank) (sym (same-used (slotAt xs l .rank)) ∙ ap (λ (q : ℕ). not (eqb q 0)) (sym (rank-there l ne)) ∙ rw (ne-eqb (slotAt ys l .rank) 0 (λ e. omega arith)))
-
-    used-after : (l : ℕ) → (l ≡ j → ⊥) → 0 < slotAt xs l .rank → 0 < slotAt ys l .rank
-    used-after l ne u = pos-taken (slotAt ys l .rank) (ap (λ (q : ℕ). not (eqb q 0)) (rank-there l ne) ∙ same-used (slotAt xs l .rank) ∙ rw (ne-eqb (slotAt xs l .rank) 0 (λ e. omega arith)))
-
     pub lacks-moved : Lacks n xs K → (0 < slotAt ys j .rank → slotAt ys j .key ≡ K → ⊥) → Lacks n ys K
     lacks-moved lacks here l m u q = go (same? l j)
       where
         go : Same l j → ⊥
         go (same e p) = here (omega (arith, ap (λ (o : ℕ). slotAt ys o .rank) p)) (ap (λ (o : ℕ). slotAt ys o .key) (sym p) ∙ q)
-        go (other e p) = lacks l m (used-before l p u) (sym (key-there l p) ∙ q)
+        go (other e p) = lacks l m (used-before xs ys j g same-used there l p u) (sym (key-there xs ys j g same-used there l p) ∙ q)
 
     pub track-moved : (cells cells′ : List ℕ) (i : ℕ) (got : List ℕ) (since since′ : List Key) → (i ≡ j → ⊥) → Track xs cells i got since
         → ((X : Key) → elemKey X since ≡ true → elemKey X since′ ≡ true)
@@ -103,7 +106,7 @@ module _ (n : ℕ) (K : Key) (parts : List (List ℕ)) where
         → ((m : ℕ) → 1 ≤ m → m ≤ mostParts → cellPart cells′ (slotAt ys i) i m ≡ cellPart cells (slotAt xs i) i m)
         → Track ys cells′ i got since′
     track-moved cells cells′ i got since since′ ne tr more here stay = record {
-      bears = record { inside = tr .bears .inside; used = used-after i ne (tr .bears .used); key = key-there i ne ∙ tr .bears .key };
+      bears = record { inside = tr .bears .inside; used = used-after xs ys j g same-used there i ne (tr .bears .used); key = key-there xs ys j g same-used there i ne ∙ tr .bears .key };
       total = ap (λ (x : Slot). x .total) (there i ne) ∙ tr .total;
       held = λ m a b. ap (λ (x : Slot). heldAt x m) (there i ne) ∙ tr .held m a b;
       octets = λ m a b e. stay m a b ∙ tr .octets m a b e;
@@ -112,10 +115,10 @@ module _ (n : ℕ) (K : Key) (parts : List (List ℕ)) where
       where
         go : (l : ℕ) → l < n → 0 < slotAt ys l .rank → slotAt ys l .rank < slotAt ys i .rank → Same l j → elemKey (slotAt ys l .key) since′ ≡ true
         go l a u less (same e p) = rw p (here (omega (arith, ap (λ (o : ℕ). slotAt ys o .rank) p)))
-        go l a u less (other e p) = rw (key-there l p) (more (slotAt xs l .key) (tr .near l a (used-before l p u) (before (leb (slotAt xs i .rank) (slotAt xs l .rank)) refl)))
+        go l a u less (other e p) = rw (key-there xs ys j g same-used there l p) (more (slotAt xs l .key) (tr .near l a (used-before xs ys j g same-used there l p u) (before (leb (slotAt xs i .rank) (slotAt xs l .rank)) refl)))
           where
             before : (b : Bool) → leb (slotAt xs i .rank) (slotAt xs l .rank) ≡ b → slotAt xs l .rank < slotAt xs i .rank
-            before true f = absurd (omega (arith, rank-there l p, rank-there i ne, mono (slotAt xs i .rank) (slotAt xs l .rank) (leb-true (slotAt xs i .rank) (slotAt xs l .rank) f)))
+            before true f = absurd (omega (arith, rank-there xs ys j g same-used there l p, rank-there xs ys j g same-used there i ne, mono (slotAt xs i .rank) (slotAt xs l .rank) (leb-true (slotAt xs i .rank) (slotAt xs l .rank) f)))
             before false f = leb-false (slotAt xs i .rank) (slotAt xs l .rank) f
 
   -- ---- a call with the key itself

@@ -35,7 +35,7 @@ use Rattle.series.specs.CaseLaws.{Bears, Lacks, Case, other-total, other-octets
 use Rattle.series.specs.KeepLaws.{short}
 use Rattle.demands.specs.Runs.{Call}
 use Rattle.demands.specs.Wake.{concat, Cut, messages, pages, elem, elemKey, add, addKey, complete, counts, slotOf, Seen, firstSlot, NewPlace, lowest-free, least-recent, Repeated, Waits, Wakes}
-use Rattle.demands.proofs.Lists.{add-old, add-not-nil, first-known, complete-add, one-short, elem-key-add, elem-key-self, length-add-key, pigeon, joined-parts}
+use Rattle.demands.proofs.Lists.{add-old, add-not-nil, first-known, complete-add, one-short, elem-key-add, elem-key-self, length-add-key, pigeon, keys-apart, joined-parts}
 use Rattle.demands.proofs.Track.{aged-mono, closed-mono, length-short, Track, lacks-moved, track-moved, track-again, track-kept}
 
 -- ---- the packet that the parts hold
@@ -103,7 +103,7 @@ module _ (n : ℕ) (K : Key) (parts : List (List ℕ)) where
     -- different, have come since its last call, and X, which is none of them, comes now.
     window : Track n K parts xs cells i got since → Lacks n xs X → slotAt xs i .rank ≡ n → ((j : ℕ) → j < n → 0 < slotAt xs j .rank)
         → n ≤ length (addKey X since)
-    window tr lacks full all = pigeon n key (addKey X since) (λ j l. here j l (same? j i)) (λ j m l l′ e. apart j m l l′ e (same? j i) (same? m i))
+    window tr lacks full all = pigeon n key (addKey X since) (λ j l. here j l (same? j i)) (keys-apart n n i xs X (λ j l ne. l) all (w .keys) lacks)
       where
         key : ℕ → Key
         key j = cond (eqb j i) X (slotAt xs j .key)
@@ -117,12 +117,6 @@ module _ (n : ℕ) (K : Key) (parts : List (List ℕ)) where
           where
             below : (a b : ℕ) → a ≤ b → (a ≡ b → ⊥) → a < b
             below a b h d = ⊎-elim (λ (q : a ≡ b). absurd (d q)) (λ (q : a < b). q) (native.Mathlib.Nat.eq-or-lt-of-le h)
-
-        apart : (j m : ℕ) → j < n → m < n → cond (eqb j i) X (slotAt xs j .key) ≡ cond (eqb m i) X (slotAt xs m .key) → Same j i → Same m i → j ≡ m
-        apart j m l l′ q (same e p) (same f g) = p ∙ sym g
-        apart j m l l′ q (same e p) (other f g) = absurd (lacks m l′ (all m l′) (sym (simp (e, f) at q)))
-        apart j m l l′ q (other e p) (same f g) = absurd (lacks j l (all j l) (simp (e, f) at q))
-        apart j m l l′ q (other e p) (other f g) = w .keys j m l l′ (all j l) (all m l′) (simp (e, f) at q)
 
   module _ (k : Kind) (s : State) (w : Formed n k (s .rec .slots)) (long : length (s .cells) ≡ cellsSize n) (X : Key) (ne : X ≡ K → ⊥) (total number : ℕ) (o : List ℕ)
       (adm : Admitted k X total number o) (got : List ℕ) (i : ℕ) (since : List Key) where

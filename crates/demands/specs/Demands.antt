@@ -10,6 +10,7 @@ use Rattle.demands.specs.Orders.{OrderFree}
 use Rattle.demands.specs.RoundTrips.{BuildThenRead, CommandTells, ReadThenBuild, ParsedIsFormed, BuildsOrRefuses, SplitMessages, SplitPages}
 use Rattle.demands.specs.Wake.{WakeWindow, PacketComes}
 use Rattle.demands.specs.Always.{AlwaysFormed, NoKeyTwice}
+use Rattle.demands.specs.Crowding.{NeverDisplaced}
 use Rattle.demands.specs.SplitTaken.{MessagesArrive, PagesArrive}
 
 -- 1. "Every entry point takes every input, does nothing undefined and ends": no public call asks anything of its caller, and each is proved.
@@ -38,9 +39,11 @@ pub record Demand2 : Type 0 where
   pub pages-arrive : PagesArrive slotCount
   pub order-free : OrderFree
 
--- 3. The wake window, for either kind, every key, every packet and every cut of it; and "at no moment does one key occupy two slots".
+-- 3. The wake window, for either kind, every key, every packet and every cut of it; and "at no moment does one key occupy two slots". No
+-- series is displaced while at most three keys are unfinished.
 pub record Demand3 : Type 0 where
   pub wake-window : (k : Kind) (K : Key) (P : List ℕ) (parts : List (List ℕ)) → WakeWindow slotCount k K P parts
   pub packet-comes : (k : Kind) (K : Key) (P : List ℕ) (parts : List (List ℕ)) → PacketComes slotCount k K P parts
   pub always-formed : (k : Kind) → AlwaysFormed slotCount k
   pub no-key-twice : (k : Kind) → NoKeyTwice slotCount k
+  pub never-displaced : (k : Kind) → NeverDisplaced slotCount k

@@ -4,6 +4,7 @@ pub mod Orders
 pub mod Runs
 pub mod Wake
 pub mod Always
+pub mod Crowding
 pub mod Refusing
 pub mod Tightness
 pub mod Reached
