@@ -1,6 +1,6 @@
 -- Laws of the rules for packets: what the lengths of a well-formed packet say, and the two round trips.
-use Prim.Native.Nat.{ℕ, _+_, _-_, _/_, _%_, _≤_, _<_}
-use mathlib.Core.Path.{_≡_, refl, sym, ap}
+use Prim.Native.Nat.{ℕ, suc, _+_, _-_, _/_, _%_, _≤_, _<_}
+use mathlib.Core.Path.{_≡_, refl, sym, ap, _∙_}
 use mathlib.Core.Bool.{Bool, true, false, _&&_, _||_}
 use mathlib.Core.List.{List, [], _∷_, _++_}
 use native.Mathlib.Omega.{arith}
@@ -10,11 +10,12 @@ use lib.Seq.{take-at, drop-at, take-append-seam, drop-append-seam, drop-append-a
 use lib.Dec.{eqb, ltb, leb}
 use borrow.Author.Tests.{eqb-true, eq-eqb, leb-true, le-leb, ltb-false, le-ltb}
 use Rattle.octets.specs.Tests.{both, neither}
+use Rattle.octets.specs.Octets.{pairOf}
 use Rattle.octets.specs.Laws.{number-of-pair}
 use Rattle.types.specs.declared.Kind.{Kind}
 use Rattle.types.specs.declared.Kind.the-variants.{Command, Response}
 use Rattle.types.specs.Refusals.{Outcome, gives, refuse_when_otherwise_}
-use Rattle.packet.specs.Packets.{before, least, cpl, chl, wellFormed, Fields, plain, ciphered, fieldsBehind, fieldsOf, cipherBit, cipheredCommand, measured, readable, parsing, shown, securedOf, checkOf, opaqueOf, shownData, shownCheck, shownOpaque, headerLength, behind, packetFrom, packetOf, isCiphered, differ, againstSpi, misfit, building}
+use Rattle.packet.specs.Packets.{before, least, cpl, chl, wellFormed, Fields, plain, ciphered, fieldsBehind, fieldsOf, cipherBit, cipheredCommand, measured, readable, parsing, shown, securedOf, checkOf, opaqueOf, shownData, shownCheck, shownOpaque, headerLength, behind, packetFrom, packetOf, isCiphered, differ, againstSpi, misfit, building, fixedOctets, withoutCheck, checksumOctets}
 
 -- ---- the layout
 -- something stands before CNTR; CNTR and PCNTR lie before the check field; what lies there is little
@@ -137,6 +138,26 @@ module _ (k : Kind) (x : Fields) (p : List ℕ) (e : building k x ≡ gives p) (
   pub built-opaque : shownOpaque k (isCiphered x) p ≡ opaqueOf x
   unfolding shownOpaque
   built-opaque = ap shown (read-back opaqueOf)
+
+-- ---- building plain fields, then the octets of a checksum
+-- the packet without its check field: the two lengths, the fields before it, the data
+without-check : (a b h m : ℕ) (f c d : List ℕ) → length f ≡ m
+    → take (3 + m) (a ∷ b ∷ h ∷ (f ++ (c ++ d))) ++ drop (3 + (m + length c)) (a ∷ b ∷ h ∷ (f ++ (c ++ d))) ≡ a ∷ b ∷ h ∷ (f ++ d)
+without-check a b h m f c d r =
+    let x : 3 + m ≡ suc (suc (suc m)) = omega arith in
+    let y : 3 + (m + length c) ≡ suc (suc (suc (m + length c))) = omega arith in
+    rw (x, y, ← r, take-append-seam f (c ++ d), drop-append-add f (c ++ d) (length c), drop-append-seam c d)
+
+pub built-checksum : (k : Kind) (f c d p : List ℕ) → length f ≡ least k → building k (plain f c d) ≡ gives p
+    → checksumOctets k false p
+    ≡ gives (fixedOctets k ++ (pairOf (1 + (least k + length c + length d)) .0 ∷ pairOf (1 + (least k + length c + length d)) .1 ∷ (least k + length c) ∷ (f ++ d)))
+unfolding checksumOctets
+built-checksum k f c d p r e =
+    let b = built-is k (plain f c d) p e in
+    let w = built-formed k (plain f c d) p e r in
+    let n : 1 + length (f ++ (c ++ d)) ≡ 1 + (least k + length c + length d) = simp length-append (omega arith) in
+    readable-formed k p (gives (fixedOctets k ++ withoutCheck k p)) (w .0) (w .1)
+    ∙ rw (b .is, without-check (pairOf (1 + length (f ++ (c ++ d))) .0) (pairOf (1 + length (f ++ (c ++ d))) .1) (least k + length c) (least k) f c d r, n)
 
 -- ---- reading, then building
 differ-self : (a : Bool) → differ a a ≡ false
