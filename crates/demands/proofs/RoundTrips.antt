@@ -1,20 +1,26 @@
 -- Demand 2: the round trips of packets, by the laws of `packet`, and of splitting, by those of `split`.
 use Prim.Native.Nat.{ℕ}
-use mathlib.Core.Path.{_≡_, refl}
+use mathlib.Core.Path.{_≡_, refl, sym, ap, _∙_}
 use mathlib.Core.Bool.{Bool, true, false, not}
 use Prim.Native.Nat.{_≤_}
+use mathlib.Core.List.{List}
 use lib.ListN.{length}
 use lib.Dec.{ltb}
-use borrow.Author.Tests.{lt-ltb, le-ltb, ltb-false}
+use borrow.Author.Tests.{lt-ltb, le-ltb, ltb-false, eq-eqb}
 use native.Mathlib.Omega.{arith}
 use Rattle.types.specs.declared.Kind.{Kind}
 use Rattle.types.specs.declared.Kind.the-variants.{Command, Response}
-use Rattle.types.specs.Refusals.{gives, refuse_when_otherwise_}
-use Rattle.packet.specs.Packets.{mostOctets, wellFormed, Fields, fieldsOf, measured, parsing, packetOf, building, cipheredCommand}
-use Rattle.packet.specs.Laws.{built-formed, built-cipher, built-parsed, built-data, built-check, built-opaque, read-built}
+use Rattle.types.specs.declared.CommandBody.{CommandBody}
+use Rattle.types.specs.declared.CommandBody.the-variants as command
+use Rattle.types.specs.declared.ResponseBody.{ResponseBody}
+use Rattle.types.specs.declared.ResponseBody.the-variants as response
+use Rattle.types.specs.Refusals.{gives, refuse_when_otherwise_, writes}
+use Rattle.packet.specs.Packets.{mostOctets, wellFormed, Fields, plain, ciphered, fieldsOf, Parsed, measured, readable, parsing, shown, securedOf, checkOf, opaqueOf, shownData, shownCheck, shownOpaque, packetOf, building, built, cipheredCommand}
+use Rattle.packet.specs.Told.{commandFields, responseFields}
+use Rattle.packet.specs.Laws.{readable-formed, built-formed, built-checksum, built-cipher, built-parsed, built-data, built-check, built-opaque, read-built}
 use Rattle.split.specs.Laws.{parts-join, pages-join}
 use Rattle.split.specs.ReadBack.{read-single, single-octets, read-part, own-octets, read-single-page, read-page, content-octets}
-use Rattle.demands.specs.RoundTrips.{BuildThenRead, CommandTells, Said, ReadThenBuild, ParsedIsFormed, BuildsOrRefuses, SplitMessages, SplitPages}
+use Rattle.demands.specs.RoundTrips.{BuildThenRead, CommandTells, Said, ReadThenBuild, fieldsFrom, AnswersBuild, ReadThenBuildCalls, FixedLengths, ChecksumCovers, ParsedIsFormed, BuildsOrRefuses, SplitMessages, SplitPages}
 
 pub build-then-read : BuildThenRead
 build-then-read k x p right e = record {
@@ -45,6 +51,54 @@ parsed-is-formed k c p x e = go (wellFormed k p) refl (ltb mostOctets (length p)
     go false f b l e = let z : _≡_ {A = ℕ} 0 1 = cc in absurd (omega arith)
     go true f true l e = let z : _≡_ {A = ℕ} 0 1 = cc in absurd (omega arith)
     go true f false l e = (f, ltb-false mostOctets (length p) l)
+
+-- what parsing answered and showing gave are the packet's fields
+pub answers-build : AnswersBuild
+unfolding parsing shownData shownCheck shownOpaque
+answers-build k c p x bytes s e =
+    let (formed, size) = parsed-is-formed k c p x e in
+    let z : gives (measured (fieldsOf k c p)) ≡ gives x = sym (readable-formed k p (gives (measured (fieldsOf k c p))) formed size) ∙ e in
+    let y : measured (fieldsOf k c p) ≡ x = cc in
+    ap (building k) (rw (← y, seen formed size (checkOf (fieldsOf k c p)), seen formed size (securedOf (fieldsOf k c p)), seen formed size (opaqueOf (fieldsOf k c p))) (same (fieldsOf k c p)))
+    ∙ read-then-build k c p formed size bytes s
+  where
+    seen : wellFormed k p ≡ true → length p ≤ mostOctets → (o : List ℕ) → shown (readable k p (gives o)) ≡ o
+    seen formed size o = ap shown (readable-formed k p (gives o) formed size)
+
+    same : (y : Fields) → fieldsFrom (measured y) (checkOf y) (securedOf y) (opaqueOf y) ≡ y
+    same (plain f c d) = refl
+    same (ciphered f h o) = refl
+
+into-buffer : (k : Kind) (x : Fields) (p buffer : List ℕ) → length buffer ≡ mostOctets → building k x ≡ gives p → built k x buffer ≡ writes (gives p) buffer
+unfolding built
+into-buffer k x p buffer size e = rw (eq-eqb (length buffer) mostOctets size, e)
+
+pub read-then-build-calls : ReadThenBuildCalls
+read-then-build-calls p buffer bytes size = record {
+  build-command = λ x b e i. into-buffer Command _ p buffer size (of-command (commandFields (x .clear) (command.Plain b)) (sym e ∙ ap (λ (y : CommandBody). gives (commandFields (x .clear) y)) i));
+  build-ciphered-command = λ x b e i. into-buffer Command _ p buffer size (of-command (commandFields (x .clear) (command.Ciphered b)) (sym e ∙ ap (λ (y : CommandBody). gives (commandFields (x .clear) y)) i));
+  build-response = λ x b c e i. into-buffer Response _ p buffer size (of-response c (responseFields (x .tar) (response.Plain b)) (sym e ∙ ap (λ (y : ResponseBody). gives (responseFields (x .tar) y)) i));
+  build-ciphered-response = λ x b c e i. into-buffer Response _ p buffer size (of-response c (responseFields (x .tar) (response.Ciphered b)) (sym e ∙ ap (λ (y : ResponseBody). gives (responseFields (x .tar) y)) i));
+}
+  where
+    of-command : (x : Parsed) → parsing Command (cipheredCommand p) p ≡ gives x
+        → building Command (fieldsFrom x (shownCheck Command (cipheredCommand p) p) (shownData Command (cipheredCommand p) p) (shownOpaque Command (cipheredCommand p) p)) ≡ gives p
+    of-command x = answers-build Command (cipheredCommand p) p x bytes refl
+
+    of-response : (c : Bool) (x : Parsed) → parsing Response c p ≡ gives x
+        → building Response (fieldsFrom x (shownCheck Response c p) (shownData Response c p) (shownOpaque Response c p)) ≡ gives p
+    of-response c x = answers-build Response c p x bytes tt
+
+pub fixed-lengths : FixedLengths
+fixed-lengths = record {
+  command-fixed = λ x n pcntr. refl;
+  command-clear = λ x. refl;
+  response-fixed = λ t n pcntr status. refl;
+  response-clear = λ t. refl;
+}
+
+pub checksum-covers : ChecksumCovers
+checksum-covers k fixed check secured p = built-checksum k fixed check secured p
 
 pub builds-or-refuses : (k : Kind) (x : Fields) → BuildsOrRefuses k x
 unfolding building

@@ -1,15 +1,30 @@
 -- Demand 2: "Building then reading gives the same fields, and reading then building the same octets"; and what is split, every reader of 01
 -- puts together again.
-use Prim.Native.Nat.{ℕ, _-_, _*_, _≤_, _<_}
+use Prim.Native.Nat.{ℕ, _+_, _-_, _*_, _≤_, _<_}
 use mathlib.Core.Path.{_≡_}
 use mathlib.Core.Bool.{Bool, true, false}
-use mathlib.Core.List.{List, _++_}
+use mathlib.Core.List.{List, _∷_, _++_}
 use lib.ListN.{length, getD, drop, replicate}
 use Rattle.octets.specs.Joined.{joined}
+use Rattle.octets.specs.Octets.{pairOf}
 use Rattle.types.specs.declared.Kind.{Kind}
 use Rattle.types.specs.declared.Kind.the-variants.{Command, Response}
-use Rattle.types.specs.Refusals.{gives, refused}
-use Rattle.packet.specs.Packets.{mostOctets, wellFormed, Fields, fieldsOf, cipheredCommand, isCiphered, measured, parsing, securedOf, checkOf, opaqueOf, shownData, shownCheck, shownOpaque, againstSpi, misfit, packetOf, Parsed, building}
+use Rattle.types.specs.declared.Pair.{Pair}
+use Rattle.types.specs.declared.Tar.{Tar}
+use Rattle.types.specs.declared.Cntr.{Cntr}
+use Rattle.types.specs.declared.Clear.{Clear}
+use Rattle.types.specs.declared.Opaque.{Opaque}
+use Rattle.types.specs.declared.PlainCommand.{PlainCommand}
+use Rattle.types.specs.declared.PlainResponse.{PlainResponse}
+use Rattle.types.specs.declared.CommandBody.the-variants as command
+use Rattle.types.specs.declared.ResponseBody.the-variants as response
+use Rattle.types.specs.declared.Command as commands
+use Rattle.types.specs.declared.Response as responses
+use Rattle.types.specs.declared.ParsedCommand.the-variants as parsedCommand
+use Rattle.types.specs.declared.ParsedResponse.the-variants as parsedResponse
+use Rattle.types.specs.Refusals.{gives, refused, writes}
+use Rattle.packet.specs.Packets.{least, mostOctets, wellFormed, Fields, plain, ciphered, fieldsOf, cipheredCommand, isCiphered, measured, parsing, securedOf, checkOf, opaqueOf, shownData, shownCheck, shownOpaque, againstSpi, misfit, packetOf, Parsed, plainParsed, cipheredParsed, building, built, fixedOctets, checksumOctets}
+use Rattle.packet.specs.Told.{tarOctets, clearOctets, commandFixed, responseFixed, toldCommand, toldResponse}
 use Rattle.packet.specs.Laws.{RightLength}
 use Rattle.arrival.specs.Arrivals.{single, part}
 use Rattle.arrival.specs.Message.{messageKey, readMessage}
@@ -17,6 +32,7 @@ use Rattle.arrival.specs.Page.{pageContent, pageHeader, pageKey, readPage, iden
 use Rattle.arrival.specs.Keys.{referenceFits}
 use Rattle.split.specs.Splitting.{parts, partOctets, userData, mostSplit, pages, contentOf, page, mostPages}
 use Rattle.split.specs.ReadBack.{ownFrom, says}
+use Rattle.demands.specs.Runs.{Octets}
 
 -- ---- packets
 -- what reading finds in a packet p that was built of the fields x
@@ -42,8 +58,49 @@ Said Response c p = Unit {0}
 
 abbrev pub ReadThenBuild : Type 0
 ReadThenBuild =
-    (k : Kind) (c : Bool) (p : List ℕ) → wellFormed k p ≡ true → length p ≤ mostOctets → ((i : ℕ) → getD p i 0 < 256) → Said k c p
+    (k : Kind) (c : Bool) (p : List ℕ) → wellFormed k p ≡ true → length p ≤ mostOctets → Octets p → Said k c p
     → building k (fieldsOf k c p) ≡ gives p
+
+-- The fields that building is handed are those that parsing answered, with the parts that showing gave.
+abbrev pub fieldsFrom : Parsed → (check secured opaque : List ℕ) → Fields
+fieldsFrom (plainParsed f c d) check secured opaque = plain f check secured
+fieldsFrom (cipheredParsed f h o) check secured opaque = ciphered f h opaque
+
+-- Over what the calls answer: if parsing answers x, building from x and the parts shown gives the packet.
+abbrev pub AnswersBuild : Type 0
+AnswersBuild =
+    (k : Kind) (c : Bool) (p : List ℕ) (x : Parsed) → Octets p → Said k c p → parsing k c p ≡ gives x
+    → building k (fieldsFrom x (shownCheck k c p) (shownData k c p) (shownOpaque k c p)) ≡ gives p
+
+-- The same by the names of the calls: parse, show, and build into any buffer of 2,142 octets; the packet stands at its start.
+pub record CallsBuild (p buffer : List ℕ) : Type 0 where
+  pub build-command : (x : commands.Command) (b : PlainCommand) → toldCommand (parsedCommand.Fields x) ≡ parsing Command (cipheredCommand p) p → x .body ≡ command.Plain b
+      → built Command (plain (commandFixed (x .clear) (b .cntr) (b .pcntr)) (shownCheck Command (cipheredCommand p) p) (shownData Command (cipheredCommand p) p)) buffer
+      ≡ writes (gives p) buffer
+  pub build-ciphered-command : (x : commands.Command) (b : Opaque) → toldCommand (parsedCommand.Fields x) ≡ parsing Command (cipheredCommand p) p → x .body ≡ command.Ciphered b
+      → built Command (ciphered (clearOctets (x .clear)) (b .header) (shownOpaque Command (cipheredCommand p) p)) buffer ≡ writes (gives p) buffer
+  pub build-response : (x : responses.Response) (b : PlainResponse) (c : Bool) → toldResponse (parsedResponse.Fields x) ≡ parsing Response c p → x .body ≡ response.Plain b
+      → built Response (plain (responseFixed (x .tar) (b .cntr) (b .pcntr) (b .status)) (shownCheck Response c p) (shownData Response c p)) buffer ≡ writes (gives p) buffer
+  pub build-ciphered-response : (x : responses.Response) (b : Opaque) (c : Bool) → toldResponse (parsedResponse.Fields x) ≡ parsing Response c p → x .body ≡ response.Ciphered b
+      → built Response (ciphered (tarOctets (x .tar)) (b .header) (shownOpaque Response c p)) buffer ≡ writes (gives p) buffer
+
+abbrev pub ReadThenBuildCalls : Type 0
+ReadThenBuildCalls = (p buffer : List ℕ) → Octets p → length buffer ≡ mostOctets → CallsBuild p buffer
+
+-- The fixed fields that the building calls hand in are as many as the kind has: `RightLength` holds of them.
+pub record FixedLengths : Type 0 where
+  pub command-fixed : (x : Clear) (n : Cntr) (pcntr : ℕ) → length (commandFixed x n pcntr) ≡ 13
+  pub command-clear : (x : Clear) → length (clearOctets x) ≡ 7
+  pub response-fixed : (t : Tar) (n : Cntr) (pcntr status : ℕ) → length (responseFixed t n pcntr status) ≡ 10
+  pub response-clear : (t : Tar) → length (tarOctets t) ≡ 3
+
+-- "the packet from its length field to the end without the check field. For a response the fixed octets 02 71 00 stand before the packet":
+-- of a packet built of plain fields the fixed octets, the two lengths, the fields before the check field, the data
+abbrev pub ChecksumCovers : Type 0
+ChecksumCovers =
+    (k : Kind) (fixed check secured p : List ℕ) → length fixed ≡ least k → building k (plain fixed check secured) ≡ gives p
+    → let lengths : Pair = pairOf (1 + (least k + length check + length secured)) in
+    checksumOctets k false p ≡ gives (fixedOctets k ++ (lengths .0 ∷ lengths .1 ∷ (least k + length check) ∷ (fixed ++ secured)))
 
 -- a packet that parses is well formed, and not too long
 abbrev pub ParsedIsFormed : Type 0
