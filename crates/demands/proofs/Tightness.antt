@@ -1,9 +1,13 @@
 -- Each promise is tight: the outcome can be read back from what is told of it.
 use Prim.Native.Nat.{ℕ, _+_, _-_}
 use mathlib.Core.Path.{_≡_, refl, sym, ap, _∙_}
+use mathlib.Core.Bool.{Bool}
 use mathlib.Core.List.{List, [], _∷_}
 use mathlib.Core.Option.{Option, none, some}
 use lib.ListN.{getD}
+use lib.ListN as list
+use Rattle.octets.specs.Octets as octets
+use Rattle.types.specs.declared.Kind.the-variants.{Command, Response}
 use Rattle.types.specs.declared.Refusal.{Refusal}
 use Rattle.types.specs.declared.Refusal.the-variants.{BufferOrRecord, Size, Header, Element, Identifier, Total, OtherTotal, OtherOctets, NotWellFormed, Cipher, HeaderLength, PacketLength, Reference, Number}
 use Rattle.types.specs.declared.Tar.{Tar}
@@ -20,7 +24,7 @@ use Rattle.types.specs.declared.ParsedResponse.the-variants as parsedResponse
 use Rattle.types.specs.declared.Written.{Written}
 use Rattle.types.specs.declared.Written.the-variants as written
 use Rattle.types.specs.Refusals.{Outcome, refused, gives, Lent, numberOf}
-use Rattle.packet.specs.Packets.{Parsed, plainParsed, cipheredParsed}
+use Rattle.packet.specs.Packets.{Parsed, plainParsed, cipheredParsed, formedBy, wellFormed, cipheredCommand, shownData, shownCheck, shownOpaque}
 use Rattle.packet.specs.declared.read.Judged.{Judged}
 use Rattle.packet.specs.declared.read.Judged.the-variants as judged
 use Rattle.packet.specs.Told.{toldCommand, toldResponse}
@@ -32,7 +36,9 @@ use Rattle.joined.specs.declared.Size as joined
 use Rattle.joined.specs.Fronts.{toldSize}
 use Rattle.slots.specs.declared.find.Found.{Found}
 use Rattle.slots.specs.declared.find.Found.the-variants as found
+use Rattle.slots.specs.Slots.{slotCount, freshRecord}
 use Rattle.slots.specs.Found.{toldFound}
+use Rattle.formed.specs.Formed.{recordFormed}
 use Rattle.types.specs.declared.Answer.{Answer}
 use Rattle.types.specs.declared.Answer.the-variants as answer
 use Rattle.types.specs.declared.Taken.{Taken}
@@ -40,7 +46,7 @@ use Rattle.series.specs.Taking as taking
 use Rattle.types.specs.declared.WrittenPart.{WrittenPart}
 use Rattle.types.specs.declared.WrittenPart.the-variants as writtenPart
 use Rattle.split.specs.Splitting as split
-use Rattle.demands.specs.Tightness.{Tight, toldBuilt, toldPart, toldHanded, toldTaken, Promises, PlainPromises}
+use Rattle.demands.specs.Tightness.{Tight, toldBuilt, toldPart, toldHanded, toldTaken, Tellings, PlainPromises, One, Promises}
 
 -- what can be read back is told of one outcome only
 tight : {O P : Type 0} (told : O → P) (back : P → O) → ((r : O) → back (told r) ≡ r) → Tight told
@@ -202,8 +208,9 @@ unfolding foundOf
 found-back (found.At i) = refl
 found-back found.Nothing = refl
 
-pub promises : Promises
-promises = record {
+-- ---- the forms of outcomes
+pub tellings : Tellings
+tellings = record {
   refusal-number = tight numberOf refusalOf refusal-back;
   parse-command = tight toldCommand commandOf command-back;
   parse-response = tight toldResponse responseOf response-back;
@@ -219,3 +226,46 @@ promises = record {
 
 pub plain-promises : PlainPromises
 plain-promises Outcome rule r₁ r₂ e₁ e₂ = e₁ ∙ sym e₂
+
+-- ---- the calls, each at its rule
+-- the outcome itself is the rule's
+plain : {O : Type 0} (rule : O) → One (λ (r : O). r ≡ rule)
+plain {O} rule = plain-promises O rule
+
+pub promises : Promises
+promises = record {
+  refusal-number = λ x. plain (numberOf x);
+  number-of = λ high low. plain (octets.numberOf high low);
+  pair-of = λ n. plain (octets.pairOf n);
+  put = λ src dst at r₁ r₂ e₁ e₂. put-one (e₁ .0 ∙ sym (e₂ .0)) (e₁ .1 ∙ sym (e₂ .1));
+  same = λ a b. plain (octets.sameOctets a b);
+  up-to = λ src n. plain (list.take n src);
+  build-command = λ clear cntr pcntr check secured out. tellings .build-and-checksum _;
+  build-ciphered-command = λ clear header opaque out. tellings .build-and-checksum _;
+  build-response = λ tar cntr pcntr status check secured out. tellings .build-and-checksum _;
+  build-ciphered-response = λ tar header opaque out. tellings .build-and-checksum _;
+  command-checksum = λ p out. tellings .build-and-checksum _;
+  response-checksum = λ p c out. tellings .build-and-checksum _;
+  formed = λ k size high low header. plain (formedBy k size high low header);
+  well-formed = λ k p. plain (wellFormed k p);
+  parse-command = λ p. tellings .parse-command _;
+  parse-response = λ p c. tellings .parse-response _;
+  command-check = λ p. plain (shownCheck Command (cipheredCommand p) p);
+  command-data = λ p. plain (shownData Command (cipheredCommand p) p);
+  command-opaque = λ p. plain (shownOpaque Command (cipheredCommand p) p);
+  response-check = λ p c. plain (shownCheck Response c p);
+  response-data = λ p c. plain (shownData Response c p);
+  response-opaque = λ p c. plain (shownOpaque Response c p);
+  read-message = λ k sender ud. tellings .read-message-and-page _;
+  read-page = λ k page. tellings .read-message-and-page _;
+  own-octets = λ o start. plain (list.drop start o);
+  fresh = λ k. plain (freshRecord slotCount k);
+  record-formed = λ x. plain (recordFormed slotCount x);
+  take-message = λ x sender ud cells out. tellings .take-message-and-page _;
+  take-page = λ x page cells out. tellings .take-message-and-page _;
+  write-message = λ k width reference number p out. tellings .write-message-and-page _;
+  write-page = λ serial identifier dcs number p out. tellings .write-message-and-page _;
+}
+  where
+    put-one : {r₁ r₂ : Bool × List ℕ} → r₁ .0 ≡ r₂ .0 → r₁ .1 ≡ r₂ .1 → r₁ ≡ r₂
+    put-one a b = λ i. (a i, b i)

@@ -2,16 +2,37 @@
 -- outcome is what the rule says. It is tight where no two outcomes are told alike.
 use Prim.Native.Nat.{ℕ}
 use mathlib.Core.Path.{_≡_}
+use mathlib.Core.Bool.{Bool}
 use mathlib.Core.List.{List}
 use mathlib.Core.Option.{Option}
+use lib.ListN as list
+use Rattle.types.specs.declared.Refusal.{Refusal}
+use Rattle.types.specs.declared.Kind.{Kind}
+use Rattle.types.specs.declared.Kind.the-variants.{Command, Response}
+use Rattle.types.specs.declared.Pair.{Pair}
+use Rattle.types.specs.declared.Tar.{Tar}
+use Rattle.types.specs.declared.Cntr.{Cntr}
+use Rattle.types.specs.declared.Clear.{Clear}
+use Rattle.types.specs.declared.ParsedCommand.{ParsedCommand}
+use Rattle.types.specs.declared.ParsedResponse.{ParsedResponse}
+use Rattle.types.specs.declared.Arrival.{Arrival}
+use Rattle.types.specs.declared.SerialNumber.{SerialNumber}
+use Rattle.types.specs.declared.MessageIdentifier.{MessageIdentifier}
+use Rattle.types.specs.declared.Record.{Record}
 use Rattle.types.specs.declared.Written.{Written}
 use Rattle.types.specs.Refusals.{Lent, lent, numberOf, toldWritten}
-use Rattle.packet.specs.Told.{toldCommand, toldResponse}
+use Rattle.octets.specs.Octets as octets
+use Rattle.packet.specs.Packets.{plain, ciphered, formedBy, wellFormed, cipheredCommand, parsing, shownData, shownCheck, shownOpaque, built, checksummed}
+use Rattle.packet.specs.Told.{tarOctets, clearOctets, commandFixed, responseFixed, toldCommand, toldResponse}
 use Rattle.packet.specs.Judging.{toldJudged}
 use Rattle.arrival.specs.Arrivals.{toldArrival}
+use Rattle.arrival.specs.Message.{readMessage}
+use Rattle.arrival.specs.Page.{readPage}
 use Rattle.joined.specs.declared.Size.{Size}
 use Rattle.joined.specs.Fronts.{toldSize}
+use Rattle.slots.specs.Slots.{slotCount, freshRecord}
 use Rattle.slots.specs.Found.{toldFound}
+use Rattle.formed.specs.Formed.{recordFormed}
 use Rattle.types.specs.declared.Taken.{Taken}
 use Rattle.series.specs.Taking as taking
 use Rattle.types.specs.declared.WrittenPart.{WrittenPart}
@@ -37,8 +58,8 @@ toldHanded (r, output) = (toldSize r, output)
 abbrev pub toldTaken : Taken × (List ℕ × List ℕ) → taking.After
 toldTaken (r, (cells, output)) = taking.after (taking.toldAnswer (r .answer)) (r .record) cells output
 
--- ---- the promises, each by the call's name
-pub record Promises : Type 0 where
+-- ---- no two outcomes are told alike
+pub record Tellings : Type 0 where
   -- Refusal::number
   pub refusal-number : Tight numberOf
   -- parse_command, parse_response
@@ -58,9 +79,61 @@ pub record Promises : Type 0 where
   pub hand-out : Tight toldHanded
   pub find-key : Tight toldFound
 
--- Where the promise is that the outcome itself is what the rule says, nothing else can be told of it: wide, pair_of, number_of, put (the answer
--- and the buffer), same, formed, well_formed, fresh, record_formed, the octets of the part that a showing call, up_to or own_octets gives, and
--- the other calls between crates: before, least, cipher_bit, ciphered_command, element, nothing, plus, walk, in_range, is_pageless,
--- reference_fits, room, no_front, extended, front_of, opened, free_slot, slot_at, with_part, same_key, new_place, to_front, freed.
+-- Where the promise is that the outcome itself is what the rule says, nothing else can be told of it. So it is of the other calls between
+-- crates: wide, before, least, cipher_bit, ciphered_command, element, nothing, plus, walk, in_range, is_pageless, reference_fits, room,
+-- no_front, extended, front_of, opened, free_slot, slot_at, with_part, same_key, new_place, to_front, freed.
 abbrev pub PlainPromises : Type 1
 PlainPromises = (Outcome : Type 0) → Tight {Outcome = Outcome} {Paper = Outcome} (λ r. r)
+
+-- ---- the promises of the public calls
+-- two outcomes that satisfy a promise are equal
+abbrev pub One : {Outcome : Type 0} → (Outcome → Type 0) → Type 0
+One {Outcome} Promise = (r₁ r₂ : Outcome) → Promise r₁ → Promise r₂ → r₁ ≡ r₂
+
+-- Each call that a user can name, by its name, with its promise: "No public call lacks such a statement". The outcome is the answer; with a
+-- lent buffer, the answer and the buffer afterwards; of a part of a slice, its octets. Where the part stands is not told (docs/PROMISES.md).
+pub record Promises : Type 0 where
+  pub refusal-number : (x : Refusal) → One (λ (r : ℕ). r ≡ numberOf x)
+  -- octets
+  pub number-of : (high low : ℕ) → One (λ (r : ℕ). r ≡ octets.numberOf high low)
+  pub pair-of : (n : ℕ) → One (λ (r : Pair). r ≡ octets.pairOf n)
+  pub put : (src dst : List ℕ) (at : ℕ) → One (λ (r : Bool × List ℕ). (r .0 ≡ octets.fitsAt dst at src) × (r .1 ≡ octets.afterPut dst at src))
+  pub same : (a b : List ℕ) → One (λ (r : Bool). r ≡ octets.sameOctets a b)
+  pub up-to : (src : List ℕ) (n : ℕ) → One (λ (r : List ℕ). r ≡ list.take n src)
+  -- packets
+  pub build-command : (clear : Clear) (cntr : Cntr) (pcntr : ℕ) (check secured out : List ℕ)
+      → One (λ (r : Written × List ℕ). toldBuilt r ≡ built Command (plain (commandFixed clear cntr pcntr) check secured) out)
+  pub build-ciphered-command : (clear : Clear) (header : ℕ) (opaque out : List ℕ)
+      → One (λ (r : Written × List ℕ). toldBuilt r ≡ built Command (ciphered (clearOctets clear) header opaque) out)
+  pub build-response : (tar : Tar) (cntr : Cntr) (pcntr status : ℕ) (check secured out : List ℕ)
+      → One (λ (r : Written × List ℕ). toldBuilt r ≡ built Response (plain (responseFixed tar cntr pcntr status) check secured) out)
+  pub build-ciphered-response : (tar : Tar) (header : ℕ) (opaque out : List ℕ)
+      → One (λ (r : Written × List ℕ). toldBuilt r ≡ built Response (ciphered (tarOctets tar) header opaque) out)
+  pub command-checksum : (p out : List ℕ) → One (λ (r : Written × List ℕ). toldBuilt r ≡ checksummed Command (cipheredCommand p) p out)
+  pub response-checksum : (p : List ℕ) (c : Bool) (out : List ℕ) → One (λ (r : Written × List ℕ). toldBuilt r ≡ checksummed Response c p out)
+  pub formed : (k : Kind) (size high low header : ℕ) → One (λ (r : Bool). r ≡ formedBy k size high low header)
+  pub well-formed : (k : Kind) (p : List ℕ) → One (λ (r : Bool). r ≡ wellFormed k p)
+  pub parse-command : (p : List ℕ) → One (λ (r : ParsedCommand). toldCommand r ≡ parsing Command (cipheredCommand p) p)
+  pub parse-response : (p : List ℕ) (c : Bool) → One (λ (r : ParsedResponse). toldResponse r ≡ parsing Response c p)
+  pub command-check : (p : List ℕ) → One (λ (r : List ℕ). r ≡ shownCheck Command (cipheredCommand p) p)
+  pub command-data : (p : List ℕ) → One (λ (r : List ℕ). r ≡ shownData Command (cipheredCommand p) p)
+  pub command-opaque : (p : List ℕ) → One (λ (r : List ℕ). r ≡ shownOpaque Command (cipheredCommand p) p)
+  pub response-check : (p : List ℕ) (c : Bool) → One (λ (r : List ℕ). r ≡ shownCheck Response c p)
+  pub response-data : (p : List ℕ) (c : Bool) → One (λ (r : List ℕ). r ≡ shownData Response c p)
+  pub response-opaque : (p : List ℕ) (c : Bool) → One (λ (r : List ℕ). r ≡ shownOpaque Response c p)
+  -- arrivals
+  pub read-message : (k : Kind) (sender : ℕ) (ud : List ℕ) → One (λ (r : Arrival). toldArrival r ≡ readMessage k sender ud)
+  pub read-page : (k : Kind) (page : List ℕ) → One (λ (r : Arrival). toldArrival r ≡ readPage k page)
+  pub own-octets : (o : List ℕ) (start : ℕ) → One (λ (r : List ℕ). r ≡ list.drop start o)
+  -- series
+  pub fresh : (k : Kind) → One (λ (r : Record). r ≡ freshRecord slotCount k)
+  pub record-formed : (x : Record) → One (λ (r : Bool). r ≡ recordFormed slotCount x)
+  pub take-message : (x : Record) (sender : ℕ) (ud cells out : List ℕ)
+      → One (λ (r : Taken × (List ℕ × List ℕ)). toldTaken r ≡ taking.takeMessage slotCount (taking.state x cells out) sender ud)
+  pub take-page : (x : Record) (page cells out : List ℕ)
+      → One (λ (r : Taken × (List ℕ × List ℕ)). toldTaken r ≡ taking.takePage slotCount (taking.state x cells out) page)
+  -- splitting
+  pub write-message : (k : Kind) (width reference number : ℕ) (p out : List ℕ)
+      → One (λ (r : WrittenPart × List ℕ). toldPart r ≡ split.writeMessage k width reference p number out)
+  pub write-page : (serial : SerialNumber) (identifier : MessageIdentifier) (dcs number : ℕ) (p out : List ℕ)
+      → One (λ (r : WrittenPart × List ℕ). toldPart r ≡ split.writePage (serial .0) (identifier .0) dcs p number out)
