@@ -10,6 +10,7 @@ use Rattle.demands.proofs.Refusing as refusing
 use Rattle.demands.proofs.Orders as orders
 use Rattle.demands.proofs.RoundTrips as trips
 use Rattle.demands.proofs.SplitTaken as split
+use Rattle.demands.proofs.Delivery as delivery
 
 some : 0 < slotCount
 some = omega arith
@@ -40,6 +41,8 @@ demand-2 = record {
   split-pages = trips.split-pages;
   messages-arrive = split.messages-arrive slotCount some;
   pages-arrive = split.pages-arrive slotCount some;
+  messages-delivered = delivery.messages-delivered slotCount some;
+  pages-delivered = delivery.pages-delivered slotCount some;
   order-free = orders.order-free;
 }
 

@@ -1,15 +1,14 @@
 -- The premises of the wake window can be met, and its number is the right one: both sequences are computed.
 use Prim.Native.Nat.{ℕ, _<_}
-use mathlib.Core.Path.{_≡_, refl, sym, ap, subst}
+use mathlib.Core.Path.{_≡_, refl, sym, ap}
 use mathlib.Core.Bool.{Bool, true, false}
-use mathlib.Core.List.{List, [], _∷_, nil≢cons, head-eq-of-cons-eq, tail-eq-of-cons-eq}
+use mathlib.Core.List.{List, [], _∷_}
 use native.Mathlib.Omega.{arith}
 use lib.ListN.{length, getD, length-replicate, List·getD-eq-default}
 use lib.Dec.{ltb}
 use borrow.Author.Tests.{ltb-true, ltb-false}
 use Rattle.octets.specs.Octets.{sameOctets, placed}
 use Rattle.octets.specs.Joined.{joined}
-use Rattle.types.specs.declared.Kind.{Kind}
 use Rattle.types.specs.declared.Kind.the-variants.{Command}
 use Rattle.types.specs.Refusals as reading
 use Rattle.packet.specs.Packets.{mostOctets}
@@ -25,39 +24,12 @@ use Rattle.slots.specs.Slots.{slotCount, find, aged, closed, toFront, freed}
 use Rattle.formed.specs.Formed.{allZero, usedFormed, slotFormed, keysDiffer, ranked, slotsFormed}
 use Rattle.series.specs.Cells.{cellsSize, cellPart, joinedOctets}
 use Rattle.series.specs.Taking.{step, takePart, takeMessage, packet}
-use Rattle.series.specs.Calls.{read}
 use Rattle.demands.specs.Examples.{M}
-use Rattle.demands.specs.Runs.{Call, fresh, outcome, run, Octets, Proper, Each}
-use Rattle.demands.specs.Wake.{messages, complete, Seen, seen, follow, EachWith, Fair, begin}
+use Rattle.demands.specs.Runs.{Call, fresh, outcome, run, Octets, Proper}
+use Rattle.demands.specs.Wake.{messages, Seen, seen, Fair, begin}
 use Rattle.demands.proofs.Calls.{fresh-free}
+use Rattle.demands.proofs.Along.{All, each, Here, each-with}
 use Rattle.demands.specs.Reached.{key, halves, call, first, second, other, cells, two, Met, Missed}
-
--- ---- a list that is written out, call by call
-abbrev All : (Call → Type 0) → List Call → Type 0
-All P [] = Unit {0}
-All P (c ∷ cs) = P c × All P cs
-
-each : (P : Call → Type 0) (calls : List Call) → All P calls → Each P calls
-each P [] a [] d v e = absurd (nil≢cons e)
-each P [] a (c ∷ u) d v e = absurd (nil≢cons e)
-each P (c ∷ cs) a [] d v e = subst P (head-eq-of-cons-eq e) (a .0)
-each P (c ∷ cs) a (x ∷ u) d v e = each P cs (a .1) u d v (tail-eq-of-cons-eq e)
-
-module _ (n : ℕ) (k : Kind) (K : Key) (t : ℕ) (P : Seen → Call → (total number start : ℕ) → Type 0) where
-  abbrev Here : Seen → Call → Type 0
-  Here w c =
-      (total number start : ℕ) → read k (c .input) ≡ reading.gives (part K total number start) → complete t (w .got) ≡ false → P w c total number start
-
-  abbrev Along : Seen → List Call → Type 0
-  Along w [] = Unit {0}
-  Along w (c ∷ cs) = Here w c × Along (seen n k K w c) cs
-
-  each-with : (calls : List Call) (w : Seen) → Along w calls → EachWith n k K t P w calls
-  each-with [] w a [] d v e = absurd (nil≢cons e)
-  each-with [] w a (c ∷ u) d v e = absurd (nil≢cons e)
-  each-with (c ∷ cs) w a [] d v e = subst (Here w) (head-eq-of-cons-eq e) (a .0)
-  each-with (c ∷ cs) w a (x ∷ u) d v e =
-      subst (λ (y : Call). Here (follow n k K (seen n k K w y) u) d) (head-eq-of-cons-eq e) (each-with cs (seen n k K w c) (a .1) u d v (tail-eq-of-cons-eq e))
 
 -- ---- the premises
 octets-of : (l : List ℕ) → allBelow (length l) (λ i. ltb (getD l i 0) 256) ≡ true → Octets l

@@ -12,6 +12,7 @@ use Rattle.demands.specs.Wake.{WakeWindow, PacketComes}
 use Rattle.demands.specs.Always.{AlwaysFormed, NoKeyTwice}
 use Rattle.demands.specs.Crowding.{NeverDisplaced}
 use Rattle.demands.specs.SplitTaken.{MessagesArrive, PagesArrive}
+use Rattle.demands.specs.Delivery.{MessagesDelivered, PagesDelivered}
 
 -- 1. "Every entry point takes every input, does nothing undefined and ends": no public call asks anything of its caller, and each is proved.
 -- "Bad input, bad buffers and a record that the library could not have made are refused by number. A refusal alters no lent buffer and no
@@ -41,6 +42,8 @@ pub record Demand2 : Type 0 where
   pub split-pages : SplitPages
   pub messages-arrive : MessagesArrive slotCount
   pub pages-arrive : PagesArrive slotCount
+  pub messages-delivered : MessagesDelivered slotCount
+  pub pages-delivered : PagesDelivered slotCount
   pub order-free : OrderFree
 
 -- 3. The wake window, for either kind, every key, every packet and every cut of it; and "at no moment does one key occupy two slots". No

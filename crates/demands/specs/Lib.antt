@@ -10,3 +10,4 @@ pub mod Tightness
 pub mod Reached
 pub mod RoundTrips
 pub mod SplitTaken
+pub mod Delivery

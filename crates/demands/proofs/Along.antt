@@ -1,0 +1,38 @@
+-- What holds of each call of a list, shown call by call.
+use Prim.Native.Nat.{ℕ}
+use mathlib.Core.Path.{_≡_, subst}
+use mathlib.Core.Bool.{false}
+use mathlib.Core.List.{List, [], _∷_, nil≢cons, head-eq-of-cons-eq, tail-eq-of-cons-eq}
+use Rattle.types.specs.declared.Kind.{Kind}
+use Rattle.types.specs.Refusals as reading
+use Rattle.types.specs.declared.Key.{Key}
+use Rattle.arrival.specs.Arrivals.{part}
+use Rattle.series.specs.Calls.{read}
+use Rattle.demands.specs.Runs.{Call, Each}
+use Rattle.demands.specs.Wake.{complete, Seen, seen, follow, EachWith}
+
+abbrev pub All : (Call → Type 0) → List Call → Type 0
+All P [] = Unit {0}
+All P (c ∷ cs) = P c × All P cs
+
+pub each : (P : Call → Type 0) (calls : List Call) → All P calls → Each P calls
+each P [] a [] d v e = absurd (nil≢cons e)
+each P [] a (c ∷ u) d v e = absurd (nil≢cons e)
+each P (c ∷ cs) a [] d v e = subst P (head-eq-of-cons-eq e) (a .0)
+each P (c ∷ cs) a (x ∷ u) d v e = each P cs (a .1) u d v (tail-eq-of-cons-eq e)
+
+module _ (n : ℕ) (k : Kind) (K : Key) (t : ℕ) (P : Seen → Call → (total number start : ℕ) → Type 0) where
+  abbrev pub Here : Seen → Call → Type 0
+  Here w c =
+      (total number start : ℕ) → read k (c .input) ≡ reading.gives (part K total number start) → complete t (w .got) ≡ false → P w c total number start
+
+  abbrev pub Along : Seen → List Call → Type 0
+  Along w [] = Unit {0}
+  Along w (c ∷ cs) = Here w c × Along (seen n k K w c) cs
+
+  pub each-with : (calls : List Call) (w : Seen) → Along w calls → EachWith n k K t P w calls
+  each-with [] w a [] d v e = absurd (nil≢cons e)
+  each-with [] w a (c ∷ u) d v e = absurd (nil≢cons e)
+  each-with (c ∷ cs) w a [] d v e = subst (Here w) (head-eq-of-cons-eq e) (a .0)
+  each-with (c ∷ cs) w a (x ∷ u) d v e =
+      subst (λ (y : Call). Here (follow n k K (seen n k K w y) u) d) (head-eq-of-cons-eq e) (each-with cs (seen n k K w c) (a .1) u d v (tail-eq-of-cons-eq e))

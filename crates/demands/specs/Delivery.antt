@@ -1,0 +1,60 @@
+-- From splitting to taking, with no premise on the calls: from any store that calls from a fresh record lead to, what splitting writes of a
+-- packet, brought in any order in which each number occurs, repeats allowed and nothing between, hands out the packet.
+use Prim.Native.Nat.{ℕ, _≤_, _<_}
+use mathlib.Core.Path.{_≡_}
+use mathlib.Core.Bool.{true}
+use mathlib.Core.List.{List, [], _∷_, _++_}
+use lib.ListN.{length, drop}
+use Rattle.types.specs.declared.Kind.{Kind}
+use Rattle.types.specs.declared.Kind.the-variants.{Command}
+use Rattle.packet.specs.Packets.{mostOctets, wellFormed}
+use Rattle.types.specs.declared.Key.{Key}
+use Rattle.arrival.specs.Page.{pageKey, identifierInRange}
+use Rattle.arrival.specs.Keys.{referenceFits}
+use Rattle.series.specs.Cells.{cellsSize}
+use Rattle.series.specs.Taking.{packet, after}
+use Rattle.series.specs.CaseLaws.{Lacks}
+use Rattle.series.specs.Calls.{Input, message, page}
+use Rattle.split.specs.Splitting as split
+use Rattle.demands.specs.Runs.{Call, fresh, outcome, run, Octets, Proper, Each}
+use Rattle.demands.specs.Wake.{complete, Seen, nothingSeen, EachWith, Served, Comes}
+use Rattle.demands.specs.SplitTaken.{listed, keyOf}
+
+-- The calls bring, in this order, the inputs that were written under these numbers, and nothing else; each lends an output of 01's length.
+pub data Brings (t : ℕ) (written : ℕ → Input) : List ℕ → List Call → Type 0 where
+  nothing-more : Brings t written [] []
+  next : {order : List ℕ} {calls : List Call} (number : ℕ) → 1 ≤ number → number ≤ t → (c : Call) → c .input ≡ written number
+      → length (c .output) ≡ mostOctets → Brings t written order calls → Brings t written (number ∷ order) (c ∷ calls)
+
+module _ (n : ℕ) (k : Kind) (K : Key) (P : List ℕ) (t : ℕ) (octets : ℕ → List ℕ) (written : ℕ → Input) where
+  -- each call is answered exactly as the wake window says, and the packet comes at the one that brings the last missing part
+  pub record InParts (w : Seen) (calls : List Call) : Type 0 where
+    pub answered : EachWith n k K (length (listed octets t)) (Served n k K P (listed octets t)) w calls
+    pub comes : Comes n k K P (listed octets t) w calls
+
+  -- One input: the packet comes at once, record and cells as they were, the rest of the output too. Several: if the key is not held, in parts.
+  pub record Delivers (cells : List ℕ) (earlier : List Call) : Type 0 where
+    pub at-once : t ≡ 1 → (c : Call) → c .input ≡ written 1 → length (c .output) ≡ mostOctets
+        → outcome n (run n (fresh n k cells) earlier) c
+        ≡ after (packet (length P)) (run n (fresh n k cells) earlier .rec) (run n (fresh n k cells) earlier .cells) (P ++ drop (length P) (c .output))
+    pub in-parts : (t ≡ 1 → ⊥) → Lacks n (run n (fresh n k cells) earlier .rec .slots) K → (order : List ℕ) (calls : List Call)
+        → Brings t written order calls → complete t order ≡ true → InParts (nothingSeen (run n (fresh n k cells) earlier)) calls
+
+  abbrev pub Delivered : Type 0
+  Delivered = (cells : List ℕ) (earlier : List Call) → length cells ≡ cellsSize n → Each Proper earlier → Delivers cells earlier
+
+-- every packet that can be split into user data, for either kind and either width; `userData` is what writing gives (split/Laws: message-given)
+abbrev pub MessagesDelivered : ℕ → Type 0
+MessagesDelivered n =
+    (k : Kind) (sender width reference : ℕ) (P : List ℕ) → Octets P → wellFormed k P ≡ true → referenceFits width reference ≡ true
+    → length P ≤ split.mostSplit width
+    → Delivered n k (keyOf sender width reference) P (split.parts width (length P)) (split.partOctets width P)
+    (λ number. message sender (split.userData k width reference P number))
+
+-- and into pages, each with any DCS
+abbrev pub PagesDelivered : ℕ → Type 0
+PagesDelivered n =
+    (serial identifier : ℕ) (dcs : ℕ → ℕ) (P : List ℕ) → serial < 65536 → ((number : ℕ) → dcs number < 256) → Octets P → wellFormed Command P ≡ true
+    → identifierInRange identifier ≡ true → length P ≤ split.mostPages
+    → Delivered n Command (pageKey serial identifier) P (split.pages (length P)) (split.contentOf P)
+    (λ number. page (split.page serial identifier (dcs number) P number))
