@@ -26,10 +26,10 @@ use Rattle.series.specs.Cells.{joinedOctets}
 use Rattle.series.specs.Taking.{State, After, Answer, state, kept, heldAlready, packet, refused, Step, acted, handOut, step, takePart, taken, unfit, refuse}
 use Rattle.series.specs.CaseLaws.{Bears, Lacks, Case, other-total, other-octets, again, last, more, opens, displaces, case-of}
 use Rattle.series.specs.Calls.{Input, octetsOf, read, take}
+use Rattle.demands.specs.Lists.{elemKey, addKey, dropKey}
 use Rattle.demands.specs.Runs.{Call, Store, fresh, outcome, left, run, Each}
-use Rattle.demands.specs.Wake.{elemKey, addKey}
 use Rattle.demands.specs.Always.{BringsOctets}
-use Rattle.demands.specs.Crowding.{dropKey, unfinishedAfter, unfinishedWith, unfinished, NeverDisplaced}
+use Rattle.demands.specs.Crowding.{unfinishedAfter, unfinishedWith, unfinished, NeverDisplaced}
 use Rattle.demands.proofs.Lists.{elem-key-add, elem-key-self, elem-dropped, pigeon, keys-apart}
 use Rattle.demands.proofs.Track.{key-there, used-before}
 use Rattle.demands.proofs.Calls.{isPage, taking-any, fresh-free, Formed′, formed-call}

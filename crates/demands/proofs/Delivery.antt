@@ -30,8 +30,9 @@ use Rattle.series.specs.Taking.{State, After, state, packet, after, handOut, ta
 use Rattle.series.specs.Calls.{Input, message, page, octetsOf, read}
 use Rattle.split.specs.Splitting as split
 use Rattle.split.specs.Laws.{some-part, page-ends}
+use Rattle.demands.specs.Lists.{elem, add}
 use Rattle.demands.specs.Runs.{Call, Store, fresh, outcome, run, Octets, Proper, Each}
-use Rattle.demands.specs.Wake.{Cut, elem, add, complete, Seen, nothingSeen, seenPart, seenAfter, seen, follow, EachWith}
+use Rattle.demands.specs.Wake.{Cut, complete, Seen, nothingSeen, seenPart, seenAfter, seen, follow, EachWith}
 use Rattle.demands.specs.SplitTaken.{listed, keyOf, Sent, Sending}
 use Rattle.demands.specs.Delivery.{Brings, nothing-more, next, InParts, Delivered, MessagesDelivered, PagesDelivered}
 use Rattle.demands.proofs.Lists.{elem-add}

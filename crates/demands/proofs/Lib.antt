@@ -9,9 +9,9 @@ pub mod Crowding
 pub mod Refusing
 pub mod Tightness
 pub mod Along
-pub mod Reached
 pub mod RoundTrips
 pub mod SplitTaken
 pub mod Written
 pub mod Delivery
+pub mod Reached
 pub mod Demands

@@ -17,8 +17,8 @@ use Rattle.types.specs.declared.Slot.{Slot}
 use Rattle.slots.specs.Slots.{slotAt, sameKey}
 use Rattle.series.specs.Cells.{joined}
 use Rattle.series.specs.CaseLaws.{Lacks}
-use Rattle.demands.specs.Crowding.{dropKey}
-use Rattle.demands.specs.Wake.{concat, elem, elemKey, add, addKey, complete, firstSlot}
+use Rattle.demands.specs.Lists.{concat, elem, elemKey, add, addKey, dropKey}
+use Rattle.demands.specs.Wake.{complete, firstSlot}
 
 -- ---- two keys, the same or not
 pub data Alike (a b : Key) : Type 0 where

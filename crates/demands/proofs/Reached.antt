@@ -1,8 +1,8 @@
 -- The premises of the wake window can be met, and its number is the right one: both sequences are computed.
-use Prim.Native.Nat.{ℕ, _<_}
+use Prim.Native.Nat.{ℕ, zero, suc, _≤_, _<_}
 use mathlib.Core.Path.{_≡_, refl, sym, ap}
 use mathlib.Core.Bool.{Bool, true, false}
-use mathlib.Core.List.{List, [], _∷_}
+use mathlib.Core.List.{List, [], _∷_, _++_}
 use native.Mathlib.Omega.{arith}
 use lib.ListN.{length, getD, length-replicate, List·getD-eq-default}
 use lib.Dec.{ltb}
@@ -25,11 +25,16 @@ use Rattle.formed.specs.Formed.{allZero, usedFormed, slotFormed, keysDiffer, ra
 use Rattle.series.specs.Cells.{cellsSize, cellPart, joinedOctets}
 use Rattle.series.specs.Taking.{step, takePart, takeMessage, packet}
 use Rattle.demands.specs.Examples.{M}
+use Rattle.series.specs.Calls.{Input}
 use Rattle.demands.specs.Runs.{Call, fresh, outcome, run, Octets, Proper}
 use Rattle.demands.specs.Wake.{messages, Seen, seen, Fair, begin}
 use Rattle.demands.proofs.Calls.{fresh-free}
 use Rattle.demands.proofs.Along.{All, each, Here, each-with}
-use Rattle.demands.specs.Reached.{key, halves, call, first, second, other, cells, two, Met, Missed}
+use Rattle.demands.specs.Reached.{key, halves, call, first, second, other, cells, two, Met, Missed, longest, longestPaged, asMessage, asPage, inOrder, Longest}
+use Rattle.demands.specs.SplitTaken.{listed}
+use Rattle.demands.specs.Delivery.{Brings, nothing-more, next}
+use Rattle.demands.proofs.Written.{and, small-octets, zero-small}
+use Rattle.demands.proofs.Delivery.{messages-delivered, pages-delivered}
 
 -- ---- the premises
 octets-of : (l : List ℕ) → allBelow (length l) (λ i. ltb (getD l i 0) 256) ≡ true → Octets l
@@ -107,3 +112,30 @@ module _ (b : ℕ) where
   pub missed : Missed b
   unfolding sameOctets placed joined elementsAfter summary judged readMessage keyFormed lengthFits allBelow anyBelow countBelow find aged closed toFront freed allZero usedFormed slotFormed keysDiffer ranked slotsFormed cellPart joinedOctets packetIn step takePart takeMessage
   missed = record { kept-anew = refl }
+
+-- ---- the longest packets
+brings-both : {t : ℕ} {written : ℕ → Input} {o p : List ℕ} {u v : List Call} → Brings t written o u → Brings t written p v → Brings t written (o ++ p) (u ++ v)
+brings-both nothing-more more = more
+brings-both (next m low high c is size rest) more = next m low high c is size (brings-both rest more)
+
+in-order : (b t : ℕ) (written : ℕ → Input) (m : ℕ) → m ≤ t → Brings t written (listed (λ i. i) m) (inOrder b m written)
+in-order b t written zero l = nothing-more
+in-order b t written (suc m) l =
+    brings-both (in-order b t written m (omega arith)) (next (suc m) (omega arith) l _ refl (length-replicate mostOctets b) nothing-more)
+
+pub longest-reached : (b : ℕ) → Longest b
+unfolding allBelow
+longest-reached b = record {
+  sixteen = refl;
+  in-sixteen = messages-delivered slotCount (omega arith) Command 1 8 0x2A longest long-octets refl refl (omega arith) (cells b) [] (length-replicate (cellsSize slotCount) b) (each Proper [] tt)
+      .in-parts (λ e. omega arith) (λ j l u e. fresh-free slotCount j l u) (listed (λ i. i) 16) (inOrder b 16 asMessage) (in-order b 16 asMessage 16 (omega arith)) refl;
+  fifteen = refl;
+  in-fifteen = pages-delivered slotCount (omega arith) 0 0x1080 (λ number. 0x96) longestPaged (omega arith) (λ number. omega arith) paged-octets refl refl (omega arith) (cells b) [] (length-replicate (cellsSize slotCount) b) (each Proper [] tt)
+      .in-parts (λ e. omega arith) (λ j l u e. fresh-free slotCount j l u) (listed (λ i. i) 15) (inOrder b 15 asPage) (in-order b 15 asPage 15 (omega arith)) refl;
+}
+  where
+    long-octets : Octets longest
+    long-octets = small-octets (and 0x08 (omega arith) (and 0x5C (omega arith) (and 0x0D (omega arith) (zero-small 2139))))
+
+    paged-octets : Octets longestPaged
+    paged-octets = small-octets (and 0x04 (omega arith) (and 0xCC (omega arith) (and 0x0D (omega arith) (zero-small 1227))))

@@ -23,8 +23,9 @@ use Rattle.series.specs.Calls.{Input, message, page, read, octetsOf}
 use Rattle.split.specs.Splitting as split
 use Rattle.split.specs.Laws.{single-size, part-whole, parts-join, pages-join, page-begins, page-ends}
 use Rattle.split.specs.ReadBack.{ownFrom, read-single, single-octets, read-part, own-octets, read-single-page, read-page, content-octets}
+use Rattle.demands.specs.Lists.{concat}
 use Rattle.demands.specs.Runs.{Call, fresh, run}
-use Rattle.demands.specs.Wake.{concat, Cut, messages, pages, complete, Seen, nothingSeen, follow, EachWith, Fair, Served, Start, Comes}
+use Rattle.demands.specs.Wake.{Cut, messages, pages, complete, Seen, nothingSeen, follow, EachWith, Fair, Served, Start, Comes}
 use Rattle.demands.specs.SplitTaken.{listed, Sent, Sending, Arrives, keyOf, MessagesArrive, PagesArrive}
 use Rattle.demands.proofs.Lists.{concat-last}
 use Rattle.demands.proofs.Calls.{isPage}

@@ -25,7 +25,7 @@ use Rattle.series.specs.Cells.{cellOctets, cellsSize, cellAt, cellPart}
 use Rattle.series.specs.CellLaws.{part-by-length, cell-here, cell-there}
 use Rattle.series.specs.CaseLaws.{Bears, Lacks}
 use Rattle.series.specs.KeepLaws.{short}
-use Rattle.demands.specs.Wake.{elem, elemKey, add}
+use Rattle.demands.specs.Lists.{elem, elemKey, add}
 use Rattle.demands.proofs.Lists.{elem-add}
 
 -- ---- ranks keep their order

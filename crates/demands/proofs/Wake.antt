@@ -23,8 +23,9 @@ use Rattle.series.specs.CaseLaws.{Case, case-of}
 use Rattle.slots.specs.FrontLaws.{same-key, key-same}
 use Rattle.formed.specs.Laws.{Formed}
 use Rattle.types.specs.declared.Record.{Record}
+use Rattle.demands.specs.Lists.{elem, add}
 use Rattle.demands.specs.Runs.{Call, outcome, left, Octets, Proper, Each}
-use Rattle.demands.specs.Wake.{Cut, elem, add, complete, Seen, seenPart, seenAfter, seen, follow, EachWith, Fair, Wakes, Served, begin, WakeWindow, Last, Comes, PacketComes}
+use Rattle.demands.specs.Wake.{Cut, complete, Seen, seenPart, seenAfter, seen, follow, EachWith, Fair, Wakes, Served, begin, WakeWindow, Last, Comes, PacketComes}
 use Rattle.demands.proofs.Lists.{elem-add, add-old}
 use Rattle.demands.proofs.Calls.{isPage, taking, Kept, Admits, kept-proper, kept-fresh}
 use Rattle.demands.proofs.Window.{Phase, before, during, done, other-part, Serves, fine-known, fine-first}

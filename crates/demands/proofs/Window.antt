@@ -33,8 +33,9 @@ use Rattle.series.specs.CellLaws.{part-by-length, cell-there}
 use Rattle.series.specs.Taking.{State, After, state, heldAlready, Step, repeats, keeps, finishes, completes, acted, handOut}
 use Rattle.series.specs.CaseLaws.{Bears, Lacks, Case, other-total, other-octets, again, last, more, opens, displaces}
 use Rattle.series.specs.KeepLaws.{short}
+use Rattle.demands.specs.Lists.{concat, elem, elemKey, add, addKey}
 use Rattle.demands.specs.Runs.{Call}
-use Rattle.demands.specs.Wake.{concat, Cut, messages, pages, elem, elemKey, add, addKey, complete, counts, slotOf, Seen, firstSlot, NewPlace, lowest-free, least-recent, Repeated, Waits, Wakes}
+use Rattle.demands.specs.Wake.{Cut, messages, pages, complete, counts, slotOf, Seen, firstSlot, NewPlace, lowest-free, least-recent, Repeated, Waits, Wakes}
 use Rattle.demands.proofs.Lists.{add-old, add-not-nil, first-known, complete-add, one-short, elem-key-add, elem-key-self, length-add-key, pigeon, keys-apart, joined-parts}
 use Rattle.demands.proofs.Track.{aged-mono, closed-mono, length-short, Track, lacks-moved, track-moved, track-again, track-kept}
 

@@ -19,11 +19,11 @@ use Rattle.split.specs.Laws.{most-parts, user-data-fits, most-pages}
 use Rattle.demands.specs.Runs.{Octets}
 
 -- ---- octets put together
-data Small : List ℕ → Type 0 where
+pub data Small : List ℕ → Type 0 where
   done : Small []
   and : (x : ℕ) {l : List ℕ} → x < 256 → Small l → Small (x ∷ l)
 
-small-octets : {l : List ℕ} → Small l → Octets l
+pub small-octets : {l : List ℕ} → Small l → Octets l
 small-octets done i = omega arith
 small-octets (and x a s) zero = a
 small-octets (and x a s) (suc i) = small-octets s i
@@ -46,7 +46,7 @@ drop-small zero s = s
 drop-small (suc m) done = done
 drop-small (suc m) (and x a s) = drop-small m s
 
-zero-small : (m : ℕ) → Small (replicate m 0)
+pub zero-small : (m : ℕ) → Small (replicate m 0)
 zero-small zero = done
 zero-small (suc m) = and 0 (omega arith) (zero-small m)
 

@@ -10,17 +10,11 @@ use Rattle.types.specs.declared.Kind.{Kind}
 use Rattle.types.specs.Refusals as reading
 use Rattle.types.specs.declared.Key.{Key}
 use Rattle.arrival.specs.Arrivals.{Brought, single, part}
-use Rattle.slots.specs.Slots.{sameKey}
 use Rattle.series.specs.Taking.{Answer, kept, heldAlready, packet, refused}
 use Rattle.series.specs.Calls.{read}
+use Rattle.demands.specs.Lists.{addKey, dropKey}
 use Rattle.demands.specs.Runs.{Call, Store, fresh, outcome, left, run, Each}
-use Rattle.demands.specs.Wake.{addKey}
 use Rattle.demands.specs.Always.{BringsOctets}
-
--- the key taken out
-abbrev pub dropKey : Key → List Key → List Key
-dropKey X [] = []
-dropKey X (Y ∷ l) = cond (sameKey X Y) l (Y ∷ dropKey X l)
 
 -- A key is unfinished from "kept" on, until its packet is handed out or it is refused 9.
 abbrev pub unfinishedAfter : Key → Answer → List Key → List Key

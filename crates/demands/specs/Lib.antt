@@ -1,6 +1,7 @@
 pub mod Demands
 pub mod Examples
 pub mod Orders
+pub mod Lists
 pub mod Runs
 pub mod Wake
 pub mod Always

@@ -4,17 +4,21 @@ use Prim.Native.Nat.{ℕ}
 use mathlib.Core.Path.{_≡_}
 use mathlib.Core.Bool.{true}
 use mathlib.Core.List.{List, [], _∷_}
-use lib.ListN.{take, drop, replicate}
+use lib.ListN.{length, take, drop, replicate}
 use Rattle.types.specs.declared.Kind.the-variants.{Command}
 use Rattle.packet.specs.Packets.{mostOctets}
 use Rattle.types.specs.declared.Key.{Key}
+use Rattle.arrival.specs.Page.{pageKey}
 use Rattle.slots.specs.Slots.{slotCount}
 use Rattle.series.specs.Cells.{cellsSize}
 use Rattle.series.specs.Taking.{kept, packet}
-use Rattle.series.specs.Calls.{message}
+use Rattle.series.specs.Calls.{Input, message, page}
+use Rattle.split.specs.Splitting as split
 use Rattle.demands.specs.Examples.{M}
 use Rattle.demands.specs.Runs.{Call, fresh, outcome, run}
-use Rattle.demands.specs.Wake.{Fair, EachWith, Start, begin}
+use Rattle.demands.specs.Wake.{Fair, EachWith, Start, begin, nothingSeen}
+use Rattle.demands.specs.SplitTaken.{listed}
+use Rattle.demands.specs.Delivery.{InParts}
 
 -- M of 01's examples, cut in two, under the key of sender 1 with the 8-bit reference 2A
 abbrev pub key : Key
@@ -22,6 +26,19 @@ key = record { sender = 1; width = 8; reference = 0x2A; serial = record { 0 = 0 
 
 abbrev pub halves : List (List ℕ)
 halves = take 8 M ∷ drop 8 M ∷ []
+
+-- the longest packets that can be split: 2,142 octets of user data, and 1,230 of pages
+abbrev pub longest : List ℕ
+longest = 0x08 ∷ 0x5C ∷ 0x0D ∷ replicate 2139 0x00
+
+abbrev pub longestPaged : List ℕ
+longestPaged = 0x04 ∷ 0xCC ∷ 0x0D ∷ replicate 1227 0x00
+
+abbrev pub asMessage : ℕ → Input
+asMessage number = message 1 (split.userData Command 8 0x2A longest number)
+
+abbrev pub asPage : ℕ → Input
+asPage number = page (split.page 0 0x1080 0x96 longestPaged number)
 
 module _ (b : ℕ) where
   abbrev pub call : ℕ → List ℕ → Call
@@ -52,3 +69,15 @@ module _ (b : ℕ) where
   -- with three the first part is displaced: the second opens a series anew, and displaces another
   pub record Missed : Type 0 where
     pub kept-anew : outcome slotCount (run slotCount (fresh slotCount Command cells) (first ∷ other 2 ∷ other 3 ∷ other 4 ∷ [])) second .answer ≡ kept 1 true
+
+  -- the parts 1 to t, in order
+  abbrev pub inOrder : ℕ → (ℕ → Input) → List Call
+  inOrder t written = listed (λ number. record { input = written number; output = replicate mostOctets b }) t
+
+  -- sixteen parts and fifteen pages are reached: brought in order to a fresh record, they are answered as the wake window says, and the packet
+  -- comes
+  pub record Longest : Type 0 where
+    pub sixteen : split.parts 8 (length longest) ≡ 16
+    pub in-sixteen : InParts slotCount Command key longest 16 (split.partOctets 8 longest) asMessage (nothingSeen (fresh slotCount Command cells)) (inOrder 16 asMessage)
+    pub fifteen : split.pages (length longestPaged) ≡ 15
+    pub in-fifteen : InParts slotCount Command (pageKey 0 0x1080) longestPaged 15 (split.contentOf longestPaged) asPage (nothingSeen (fresh slotCount Command cells)) (inOrder 15 asPage)

@@ -2,10 +2,9 @@
 -- and of the call.
 use Prim.Native.Nat.{ℕ, _+_, _-_, _≤_, _<_}
 use mathlib.Core.Path.{_≡_}
-use mathlib.Core.Bool.{Bool, true, false, cond, _||_}
+use mathlib.Core.Bool.{Bool, true, false, cond}
 use mathlib.Core.List.{List, [], _∷_, _++_}
 use lib.ListN.{length, getD, drop}
-use lib.Dec.{eqb}
 use Rattle.octets.specs.Octets.{placed}
 use Rattle.types.specs.declared.Kind.{Kind}
 use Rattle.types.specs.Refusals as reading
@@ -21,34 +20,16 @@ use Rattle.series.specs.Cells.{cellsSize, cellAt}
 use Rattle.series.specs.Taking.{After, Answer, kept, heldAlready, packet, refused}
 use Rattle.series.specs.CaseLaws.{Bears, Lacks}
 use Rattle.series.specs.Calls.{read, octetsOf}
+use Rattle.demands.specs.Lists.{concat, elem, add, addKey}
 use Rattle.demands.specs.Runs.{Call, Store, fresh, outcome, left, run, Proper, Each}
 
 -- ---- the packet and its parts
-abbrev pub concat : List (List ℕ) → List ℕ
-concat [] = []
-concat (p ∷ ps) = p ++ concat ps
-
 -- "cut into 2 to 16 parts": joined in order they are the packet; for pages "as few pages as hold it, then filler"
 pub data Cut (K : Key) (P : List ℕ) (parts : List (List ℕ)) : Type 0 where
   messages : ofPages K ≡ false → concat parts ≡ P → Cut K P parts
   pages : ofPages K ≡ true → (filler : List ℕ) → concat parts ≡ P ++ filler → pagesAllow (length parts) (length P) ≡ true → Cut K P parts
 
 -- ---- what is seen from outside
-abbrev pub elem : ℕ → List ℕ → Bool
-elem j [] = false
-elem j (k ∷ l) = eqb j k || elem j l
-
-abbrev pub elemKey : Key → List Key → Bool
-elemKey X [] = false
-elemKey X (Y ∷ l) = sameKey X Y || elemKey X l
-
--- put in, where it is not there yet
-abbrev pub add : ℕ → List ℕ → List ℕ
-add k l = cond (elem k l) l (k ∷ l)
-
-abbrev pub addKey : Key → List Key → List Key
-addKey X l = cond (elemKey X l) l (X ∷ l)
-
 -- all of 1 to t have come
 abbrev pub complete : ℕ → List ℕ → Bool
 complete t got = allBelow t (λ i. elem (i + 1) got)
