@@ -76,7 +76,7 @@ ParsingRefused = (k : Kind) (c : Bool) (p : List ℕ) (number : ℕ) → parsing
 
 -- ---- "bad buffers and a record that the library could not have made are refused by number"
 -- Each call that lends a buffer or takes a record: with a buffer of another length than 01's, or a record that is not well formed, it is
--- refused 1, and everything stays as it was. `put` has no number for it: it says no, and writes nothing.
+-- refused 1, and everything stays as it was. Two calls have no number for it: `record_formed` says no, `put` says no and writes nothing.
 pub record UnfitRefused (n : ℕ) : Type 0 where
   pub taking-cells : (s : State) (i : Input) → (length (s .cells) ≡ cellsSize n → ⊥) → take n s i ≡ refuse 1 s
   pub taking-output : (s : State) (i : Input) → (length (s .output) ≡ mostOctets → ⊥) → take n s i ≡ refuse 1 s

@@ -44,7 +44,7 @@ pub record ReadBack (k : Kind) (x : Fields) (p : List ℕ) : Type 0 where
   pub check : shownCheck k (isCiphered x) p ≡ checkOf x
   pub opaque : shownOpaque k (isCiphered x) p ≡ opaqueOf x
 
--- fields as many as the kind has, which is what every call of building hands in; a command tells itself whether it is ciphered
+-- fields as many as the kind has, which is what every call of building hands in (`FixedLengths`); a command tells itself whether it is ciphered
 abbrev pub BuildThenRead : Type 0
 BuildThenRead = (k : Kind) (x : Fields) (p : List ℕ) → RightLength k x → building k x ≡ gives p → ReadBack k x p
 

@@ -64,7 +64,8 @@ abbrev pub firstSlot : List ℕ → ℕ → ℕ → ℕ
 firstSlot [] this was = this
 firstSlot (m ∷ got) this was = was
 
--- "A new key takes the lowest free slot; with none free it displaces the least recent series": the slot, and the mark of displacement
+-- "A new key takes the lowest free slot; with none free it displaces the least recent series": the slot, and the mark of displacement. A free
+-- slot has rank 0, the most recent series rank 1.
 pub data NewPlace (n : ℕ) (xs : List Slot) : ℕ → Bool → Type 0 where
   lowest-free : (i : ℕ) → i < n → slotAt xs i .rank ≡ 0 → ((j : ℕ) → j < i → 0 < slotAt xs j .rank) → NewPlace n xs i false
   least-recent : (i : ℕ) → i < n → ((j : ℕ) → j < n → (0 < slotAt xs j .rank) × (slotAt xs j .rank ≤ slotAt xs i .rank)) → NewPlace n xs i true
