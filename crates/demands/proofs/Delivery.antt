@@ -2,14 +2,13 @@
 -- the premises of the wake window hold. A single message or page is handed out by itself.
 use Prim.Native.Nat.{ℕ, _+_, _≤_, _<_}
 use mathlib.Core.Path.{_≡_, refl, sym, ap, _∙_, subst}
-use mathlib.Core.Bool.{Bool, true, false, _||_}
+use mathlib.Core.Bool.{Bool, true, false}
 use mathlib.Core.List.{List, [], _∷_, _++_, append-nil}
 use mathlib.Core.Logic.{⊎-elim}
 use mathlib.Core.Option.{some}
 use native.Mathlib.Nat.{eq-or-lt-of-le}
 use native.Mathlib.Omega.{arith}
 use lib.ListN.{length, drop}
-use lib.Dec.{eqb}
 use borrow.Author.Tests.{eq-eqb}
 use Rattle.octets.specs.Tests.{clash, Same, same, other, same?}
 use Rattle.types.specs.declared.Kind.{Kind}
@@ -35,7 +34,7 @@ use Rattle.demands.specs.Runs.{Call, Store, fresh, outcome, run, Octets,
 use Rattle.demands.specs.Wake.{Cut, complete, Seen, nothingSeen, seenPart, seenAfter, seen, follow, EachWith}
 use Rattle.demands.specs.SplitTaken.{listed, keyOf, Sent, Sending}
 use Rattle.demands.specs.Delivery.{Brings, nothing-more, next, InParts, Delivered, MessagesDelivered, PagesDelivered}
-use Rattle.demands.proofs.Lists.{elem-add}
+use Rattle.demands.proofs.Lists.{elem-add, elem-still}
 use Rattle.demands.proofs.Calls.{isPage, taking, kept-fresh}
 use Rattle.demands.proofs.Window.{packet-in}
 use Rattle.demands.proofs.Wake.{admits}
@@ -81,11 +80,7 @@ module _ (n : ℕ) (pos : 0 < n) (k : Kind) (K : Key) (P : List ℕ) (t : ℕ) (
     got-stays : {order : List ℕ} {calls : List Call} → Brings t written order calls → (w : Seen) (j : ℕ) → elem j (w .got) ≡ true → elem j (follow n k K w calls .got) ≡ true
     got-stays nothing-more w j e = e
     got-stays (next m low high c is size rest) w j e =
-        got-stays rest (seen n k K w c) j (ap (elem j) (seen-part w m low high c is .0) ∙ elem-add m j (w .got) ∙ or-true (eqb j m) e)
-      where
-        or-true : (b : Bool) {x : Bool} → x ≡ true → b || x ≡ true
-        or-true true e = refl
-        or-true false e = e
+        got-stays rest (seen n k K w c) j (ap (elem j) (seen-part w m low high c is .0) ∙ elem-still m j (w .got) e)
 
     got-all : {order : List ℕ} {calls : List Call} → Brings t written order calls → (w : Seen) (j : ℕ) → elem j order ≡ true → elem j (follow n k K w calls .got) ≡ true
     got-all nothing-more w j e = absurd (clash false e refl)

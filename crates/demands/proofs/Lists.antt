@@ -1,7 +1,7 @@
 -- Numbers and keys put into lists, and that n different keys do not fit into a list that is shorter.
 use Prim.Native.Nat.{ℕ, zero, suc, _+_, _≤_, _<_}
 use mathlib.Core.Path.{_≡_, refl, sym, ap, _∙_}
-use mathlib.Core.Bool.{Bool, true, false, cond, _||_}
+use mathlib.Core.Bool.{Bool, true, false, cond, _||_, or-true}
 use mathlib.Core.List.{List, [], _∷_, _++_, append-assoc, append-nil}
 use native.Mathlib.Omega.{arith}
 use lib.ListN.{length, getD, take}
@@ -40,6 +40,9 @@ elem-add k j l = go (elem k l) refl (same? j k)
     go true e (same p q) = rw (p, q) e
     go true e (other p q) = rw p
     go false e s = refl
+
+pub elem-still : (k j : ℕ) (l : List ℕ) → elem j l ≡ true → elem j (add k l) ≡ true
+elem-still k j l e = elem-add k j l ∙ rw (e, or-true (eqb j k))
 
 pub add-old : (k : ℕ) (l : List ℕ) → elem k l ≡ true → add k l ≡ l
 add-old k l e = rw e

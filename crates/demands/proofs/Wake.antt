@@ -1,12 +1,11 @@
 -- The wake window: the invariant holds from call to call, so each call with the key is served.
 use Prim.Native.Nat.{ℕ, _+_, _-_, _≤_, _<_}
 use mathlib.Core.Path.{_≡_, refl, sym, ap, _∙_, subst}
-use mathlib.Core.Bool.{Bool, true, false, _||_}
+use mathlib.Core.Bool.{Bool, true, false}
 use mathlib.Core.List.{List, [], _∷_, _++_}
 use mathlib.Core.Option.{Option, none, some}
 use native.Mathlib.Omega.{arith}
 use lib.ListN.{length, getD, drop}
-use lib.Dec.{eqb}
 use Rattle.octets.specs.Tests.{clash}
 use Rattle.types.specs.declared.Kind.{Kind}
 use Rattle.types.specs.Refusals as reading
@@ -26,7 +25,7 @@ use Rattle.types.specs.declared.Record.{Record}
 use Rattle.demands.specs.Lists.{elem, add}
 use Rattle.demands.specs.Runs.{Call, outcome, left, Octets, Proper, Each}
 use Rattle.demands.specs.Wake.{Cut, complete, Seen, seenPart, seenAfter, seen, follow, EachWith, Fair, Wakes, Served, begin, WakeWindow, Last, Comes, PacketComes}
-use Rattle.demands.proofs.Lists.{elem-add, add-old}
+use Rattle.demands.proofs.Lists.{elem-still, add-old}
 use Rattle.demands.proofs.Calls.{isPage, taking, Kept, Admits, kept-proper, kept-fresh}
 use Rattle.demands.proofs.Window.{Phase, before, during, done, other-part, Serves, fine-known, fine-first}
 
@@ -40,11 +39,7 @@ admits k c = go (c .input)
     go (page o) bytes key total number start e = page-part k o key total number start e
 
 complete-more : (t m : ℕ) (got : List ℕ) → complete t got ≡ true → complete t (add m got) ≡ true
-complete-more t m got e = all-hold t (λ i. elem (i + 1) (add m got)) (λ i l. elem-add m (i + 1) got ∙ or-true (eqb (i + 1) m) (all-at t (λ i. elem (i + 1) got) e i l))
-  where
-    or-true : (b : Bool) {x : Bool} → x ≡ true → b || x ≡ true
-    or-true true e = refl
-    or-true false e = e
+complete-more t m got e = all-hold t (λ i. elem (i + 1) (add m got)) (λ i l. elem-still m (i + 1) got (all-at t (λ i. elem (i + 1) got) e i l))
 
 module _ (n : ℕ) (pos : 0 < n) (k : Kind) (K : Key) (P : List ℕ) (parts : List (List ℕ)) (good : wellFormed k P ≡ true) (cut : Cut K P parts) (two : 2 ≤ length parts) where
   abbrev PhaseOf : Seen → Type 0
