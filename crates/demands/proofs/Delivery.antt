@@ -28,12 +28,12 @@ use Rattle.series.specs.CaseLaws.{Lacks}
 use Rattle.series.specs.Taking.{State, After, state, packet, after, handOut, taken}
 use Rattle.series.specs.Calls.{Input, message, page, octetsOf, read}
 use Rattle.split.specs.Splitting as split
-use Rattle.split.specs.Laws.{some-part, page-ends}
+use Rattle.split.specs.Laws.{some-part, page-ends, message-given, page-given}
 use Rattle.demands.specs.Lists.{elem, add}
 use Rattle.demands.specs.Runs.{Call, Store, fresh, outcome, run, Octets, Proper, Each}
 use Rattle.demands.specs.Wake.{Cut, complete, Seen, nothingSeen, seenPart, seenAfter, seen, follow, EachWith}
 use Rattle.demands.specs.SplitTaken.{listed, keyOf, Sent, Sending}
-use Rattle.demands.specs.Delivery.{Brings, nothing-more, next, InParts, Delivered, MessagesDelivered, PagesDelivered}
+use Rattle.demands.specs.Delivery.{Brings, nothing-more, next, InParts, Delivered, MessagesDelivered, PagesDelivered, MessagesWritten, PagesWritten}
 use Rattle.demands.proofs.Lists.{elem-add, elem-still}
 use Rattle.demands.proofs.Calls.{isPage, taking, kept-fresh}
 use Rattle.demands.proofs.Window.{packet-in}
@@ -151,3 +151,14 @@ pages-delivered n pos serial identifier dcs P small each-dcs octets formed insid
     delivered n pos Command (pageKey serial identifier) P (split.pages (length P)) (split.contentOf P)
     (λ number. page (split.page serial identifier (dcs number) P number)) (pages-split serial identifier dcs P inside most) (omega (arith, f .whole, page-ends (length P))) formed
     (λ m low high. page-octets serial identifier (dcs m) P m small inside (each-dcs m) most high octets)
+
+-- ---- what writing gives
+pub messages-written : MessagesWritten
+unfolding split.writeMessage
+messages-written k width reference P formed fits most number low high buffer lent =
+    ap (λ (o : reading.Outcome split.Piece). split.writes o buffer) (message-given k width reference P number buffer lent fits formed most low high)
+
+pub pages-written : PagesWritten
+unfolding split.writePage
+pages-written serial identifier dcs P formed inside most number low high buffer lent =
+    ap (λ (o : reading.Outcome split.Piece). split.writes o buffer) (page-given serial identifier dcs P number buffer lent inside formed most low high)

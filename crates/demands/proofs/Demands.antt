@@ -43,6 +43,8 @@ demand-2 = record {
   pages-arrive = split.pages-arrive slotCount some;
   messages-delivered = delivery.messages-delivered slotCount some;
   pages-delivered = delivery.pages-delivered slotCount some;
+  messages-written = delivery.messages-written;
+  pages-written = delivery.pages-written;
   order-free = orders.order-free;
 }
 

@@ -7,9 +7,11 @@ use mathlib.Core.List.{List, [], _∷_, _++_}
 use lib.ListN.{length, drop}
 use Rattle.types.specs.declared.Kind.{Kind}
 use Rattle.types.specs.declared.Kind.the-variants.{Command}
+use Rattle.types.specs.Refusals.{gives}
 use Rattle.packet.specs.Packets.{mostOctets, wellFormed}
 use Rattle.types.specs.declared.Key.{Key}
-use Rattle.arrival.specs.Page.{pageKey, identifierInRange}
+use Rattle.arrival.specs.Message.{mostUserData}
+use Rattle.arrival.specs.Page.{pageOctets, pageKey, identifierInRange}
 use Rattle.arrival.specs.Keys.{referenceFits}
 use Rattle.series.specs.Cells.{cellsSize}
 use Rattle.series.specs.Taking.{packet, after}
@@ -43,13 +45,22 @@ module _ (n : ℕ) (k : Kind) (K : Key) (P : List ℕ) (t : ℕ) (octets : ℕ �
   abbrev pub Delivered : Type 0
   Delivered = (cells : List ℕ) (earlier : List Call) → length cells ≡ cellsSize n → Each Proper earlier → Delivers cells earlier
 
--- every packet that can be split into user data, for either kind and either width; `userData` is what writing gives (split/Laws: message-given)
+-- every packet that can be split into user data, for either kind and either width
 abbrev pub MessagesDelivered : ℕ → Type 0
 MessagesDelivered n =
     (k : Kind) (sender width reference : ℕ) (P : List ℕ) → Octets P → wellFormed k P ≡ true → referenceFits width reference ≡ true
     → length P ≤ split.mostSplit width
     → Delivered n k (keyOf sender width reference) P (split.parts width (length P)) (split.partOctets width P)
     (λ number. message sender (split.userData k width reference P number))
+
+-- These octets are what writing gives: each number up to the total is answered with the total and the length, and stands at the start of the
+-- lent buffer, whose rest stays.
+abbrev pub MessagesWritten : Type 0
+MessagesWritten =
+    (k : Kind) (width reference : ℕ) (P : List ℕ) → wellFormed k P ≡ true → referenceFits width reference ≡ true → length P ≤ split.mostSplit width
+    → (number : ℕ) → 1 ≤ number → number ≤ split.parts width (length P) → (buffer : List ℕ) → length buffer ≡ mostUserData
+    → split.writeMessage k width reference P number buffer
+    ≡ split.writes (gives (record { total = split.parts width (length P); octets = split.userData k width reference P number })) buffer
 
 -- and into pages, each with any DCS
 abbrev pub PagesDelivered : ℕ → Type 0
@@ -58,3 +69,10 @@ PagesDelivered n =
     → identifierInRange identifier ≡ true → length P ≤ split.mostPages
     → Delivered n Command (pageKey serial identifier) P (split.pages (length P)) (split.contentOf P)
     (λ number. page (split.page serial identifier (dcs number) P number))
+
+abbrev pub PagesWritten : Type 0
+PagesWritten =
+    (serial identifier dcs : ℕ) (P : List ℕ) → wellFormed Command P ≡ true → identifierInRange identifier ≡ true → length P ≤ split.mostPages
+    → (number : ℕ) → 1 ≤ number → number ≤ split.pages (length P) → (buffer : List ℕ) → length buffer ≡ pageOctets
+    → split.writePage serial identifier dcs P number buffer
+    ≡ split.writes (gives (record { total = split.pages (length P); octets = split.page serial identifier dcs P number })) buffer

@@ -12,7 +12,7 @@ use Rattle.demands.specs.Wake.{WakeWindow, PacketComes}
 use Rattle.demands.specs.Always.{AlwaysFormed, NoKeyTwice}
 use Rattle.demands.specs.Crowding.{NeverDisplaced}
 use Rattle.demands.specs.SplitTaken.{MessagesArrive, PagesArrive}
-use Rattle.demands.specs.Delivery.{MessagesDelivered, PagesDelivered}
+use Rattle.demands.specs.Delivery.{MessagesDelivered, PagesDelivered, MessagesWritten, PagesWritten}
 
 -- 1. "Every entry point takes every input, does nothing undefined and ends": no public call asks anything of its caller, and each is proved.
 -- "Bad input, bad buffers and a record that the library could not have made are refused by number. A refusal alters no lent buffer and no
@@ -27,7 +27,7 @@ pub record Demand1 : Type 0 where
   pub unfit : UnfitRefused slotCount
 
 -- 2. The rules are 01's, and every public call equals its rule; "building then reading gives the same fields, and reading then building the
--- same octets"; what is split is put together again; the order of a header's elements does not matter.
+-- same octets"; what is split is put together again, by every reader and by taking; the order of a header's elements does not matter.
 pub record Demand2 : Type 0 where
   pub build-then-read : BuildThenRead
   pub command-tells : CommandTells
@@ -44,6 +44,8 @@ pub record Demand2 : Type 0 where
   pub pages-arrive : PagesArrive slotCount
   pub messages-delivered : MessagesDelivered slotCount
   pub pages-delivered : PagesDelivered slotCount
+  pub messages-written : MessagesWritten
+  pub pages-written : PagesWritten
   pub order-free : OrderFree
 
 -- 3. The wake window, for either kind, every key, every packet and every cut of it; and "at no moment does one key occupy two slots". No
