@@ -35,6 +35,7 @@ demand-2 = record {
   read-then-build-calls = trips.read-then-build-calls;
   fixed-lengths = trips.fixed-lengths;
   checksum-covers = trips.checksum-covers;
+  formed-is-parsed = trips.formed-is-parsed;
   parsed-is-formed = trips.parsed-is-formed;
   builds-or-refuses = trips.builds-or-refuses;
   split-messages = trips.split-messages;

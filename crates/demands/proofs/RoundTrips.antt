@@ -20,7 +20,7 @@ use Rattle.packet.specs.Told.{commandFields, responseFields}
 use Rattle.packet.specs.Laws.{readable-formed, built-formed, built-checksum, built-cipher, built-parsed, built-data, built-check, built-opaque, read-built}
 use Rattle.split.specs.Laws.{parts-join, pages-join}
 use Rattle.split.specs.ReadBack.{read-single, single-octets, read-part, own-octets, read-single-page, read-page, content-octets}
-use Rattle.demands.specs.RoundTrips.{BuildThenRead, CommandTells, Said, ReadThenBuild, fieldsFrom, AnswersBuild, ReadThenBuildCalls, FixedLengths, ChecksumCovers, ParsedIsFormed, BuildsOrRefuses, SplitMessages, SplitPages}
+use Rattle.demands.specs.RoundTrips.{BuildThenRead, CommandTells, Said, ReadThenBuild, fieldsFrom, AnswersBuild, ReadThenBuildCalls, FixedLengths, ChecksumCovers, FormedIsParsed, ParsedIsFormed, BuildsOrRefuses, SplitMessages, SplitPages}
 
 pub build-then-read : BuildThenRead
 build-then-read k x p right e = record {
@@ -41,6 +41,10 @@ read-then-build k c p formed size bytes s = read-built k c p formed size bytes (
     told : (k : Kind) → Said k c p → k ≡ Command → c ≡ cipheredCommand p
     told Command s e = s
     told Response s e = let z : _≡_ {A = ℕ} 0 1 = cc in absurd (omega arith)
+
+pub formed-is-parsed : FormedIsParsed
+unfolding parsing
+formed-is-parsed k c p formed size = readable-formed k p (gives (measured (fieldsOf k c p))) formed size
 
 pub parsed-is-formed : ParsedIsFormed
 unfolding parsing

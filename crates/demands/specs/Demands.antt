@@ -7,7 +7,7 @@ use Rattle.types.specs.declared.Key.{Key}
 use Rattle.slots.specs.Slots.{slotCount}
 use Rattle.demands.specs.Refusing.{TakingRefused, ParsingRefused, BuildingRefused, ChecksumRefused, WritingRefused, PageRefused, UnfitRefused}
 use Rattle.demands.specs.Orders.{OrderFree}
-use Rattle.demands.specs.RoundTrips.{BuildThenRead, CommandTells, ReadThenBuild, AnswersBuild, ReadThenBuildCalls, FixedLengths, ChecksumCovers, ParsedIsFormed, BuildsOrRefuses, SplitMessages, SplitPages}
+use Rattle.demands.specs.RoundTrips.{BuildThenRead, CommandTells, ReadThenBuild, AnswersBuild, ReadThenBuildCalls, FixedLengths, ChecksumCovers, FormedIsParsed, ParsedIsFormed, BuildsOrRefuses, SplitMessages, SplitPages}
 use Rattle.demands.specs.Wake.{WakeWindow, PacketComes}
 use Rattle.demands.specs.Always.{AlwaysFormed, NoKeyTwice}
 use Rattle.demands.specs.Crowding.{NeverDisplaced}
@@ -36,6 +36,7 @@ pub record Demand2 : Type 0 where
   pub read-then-build-calls : ReadThenBuildCalls
   pub fixed-lengths : FixedLengths
   pub checksum-covers : ChecksumCovers
+  pub formed-is-parsed : FormedIsParsed
   pub parsed-is-formed : ParsedIsFormed
   pub builds-or-refuses : (k : Kind) (x : Fields) → BuildsOrRefuses k x
   pub split-messages : SplitMessages

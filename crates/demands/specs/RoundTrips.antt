@@ -102,7 +102,10 @@ ChecksumCovers =
     → let lengths : Pair = pairOf (1 + (least k + length check + length secured)) in
     checksumOctets k false p ≡ gives (fixedOctets k ++ (lengths .0 ∷ lengths .1 ∷ (least k + length check) ∷ (fixed ++ secured)))
 
--- a packet that parses is well formed, and not too long
+-- a packet parses if it is well formed and not too long, and only then
+abbrev pub FormedIsParsed : Type 0
+FormedIsParsed = (k : Kind) (c : Bool) (p : List ℕ) → wellFormed k p ≡ true → length p ≤ mostOctets → parsing k c p ≡ gives (measured (fieldsOf k c p))
+
 abbrev pub ParsedIsFormed : Type 0
 ParsedIsFormed = (k : Kind) (c : Bool) (p : List ℕ) (x : Parsed) → parsing k c p ≡ gives x → (wellFormed k p ≡ true) × (length p ≤ mostOctets)
 
