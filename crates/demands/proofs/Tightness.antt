@@ -29,6 +29,10 @@ use Rattle.packet.specs.declared.read.Judged.{Judged}
 use Rattle.packet.specs.declared.read.Judged.the-variants as judged
 use Rattle.packet.specs.Told.{toldCommand, toldResponse}
 use Rattle.packet.specs.Judging.{toldJudged}
+use Rattle.header.specs.declared.Seen.{Seen}
+use Rattle.header.specs.declared.Walked.{Walked}
+use Rattle.header.specs.declared.Walked.the-variants as walked
+use Rattle.header.specs.Reading.{toldWalked}
 use Rattle.types.specs.declared.Arrival.{Arrival}
 use Rattle.types.specs.declared.Arrival.the-variants as arrival
 use Rattle.arrival.specs.Arrivals.{Brought, single, part, toldArrival}
@@ -183,6 +187,15 @@ unfolding judgedOf
 judged-back (judged.Readable h) = refl
 judged-back (judged.Refused r) = ap judged.Refused (refusal-back r)
 
+walkedOf : Outcome Seen → Walked
+walkedOf (refused n) = walked.Past
+walkedOf (gives s) = walked.Header s
+
+walked-back : (r : Walked) → walkedOf (toldWalked r) ≡ r
+unfolding walkedOf
+walked-back (walked.Header s) = refl
+walked-back walked.Past = refl
+
 sizeOf : Option ℕ → joined.Size
 sizeOf none = joined.the-variants.None
 sizeOf (some n) = joined.the-variants.Octets n
@@ -219,6 +232,7 @@ tellings = record {
   take-message-and-page = tight toldTaken takenOf taken-back;
   write-message-and-page = tight toldPart partOf part-back;
   judge = tight toldJudged judgedOf judged-back;
+  walk = tight toldWalked walkedOf walked-back;
   packet-size = tight toldSize sizeOf size-back;
   hand-out = tight toldHanded handedOf handed-back;
   find-key = tight toldFound foundOf found-back;

@@ -25,6 +25,7 @@ use Rattle.octets.specs.Octets as octets
 use Rattle.packet.specs.Packets.{plain, ciphered, formedBy, wellFormed, cipheredCommand, parsing, shownData, shownCheck, shownOpaque, built, checksummed}
 use Rattle.packet.specs.Told.{tarOctets, clearOctets, commandFixed, responseFixed, toldCommand, toldResponse}
 use Rattle.packet.specs.Judging.{toldJudged}
+use Rattle.header.specs.Reading.{toldWalked}
 use Rattle.arrival.specs.Arrivals.{toldArrival}
 use Rattle.arrival.specs.Message.{readMessage}
 use Rattle.arrival.specs.Page.{readPage}
@@ -73,8 +74,9 @@ pub record Tellings : Type 0 where
   pub take-message-and-page : Tight toldTaken
   -- write_message, write_page
   pub write-message-and-page : Tight toldPart
-  -- and of the calls between crates: judge, packet_size, hand_out, find_key
+  -- and of the calls between crates: judge, packet_size, hand_out, find_key; and of what walk answers, though its promise is the answer itself
   pub judge : Tight toldJudged
+  pub walk : Tight toldWalked
   pub packet-size : Tight toldSize
   pub hand-out : Tight toldHanded
   pub find-key : Tight toldFound

@@ -1,5 +1,5 @@
 -- What the proofs of `header` cite: one law for each return and call, over plain variables.
-use Prim.Native.Nat.{ℕ, suc, _+_, _≤_, _<_, _-_, _^_}
+use Prim.Native.Nat.{ℕ, suc, _+_, _≤_, _<_, _-_}
 use mathlib.Core.Path.{_≡_, refl, sym, ap, _∙_}
 use mathlib.Core.List.{List, [], _∷_}
 use mathlib.Core.Bool.{Bool, true, false, cond}
@@ -14,13 +14,13 @@ use Rattle.header.specs.declared.Cursor.{Cursor}
 use Rattle.header.specs.declared.Element.{Element}
 use Rattle.header.specs.declared.Element.the-variants.{Read, Past}
 use Rattle.header.specs.Header.{Item, item, _∷?_, elements}
-use Rattle.header.specs.Reading.{firstElement, wrongSeen, added, narrowIn, wideIn, concatenationSeen, commandSeen, responseSeen, collected, walked}
+use Rattle.header.specs.Reading.{firstElement, wrongSeen, added, narrowIn, wideIn, concatenationSeen, commandSeen, responseSeen, collected, walked, toldWalked, toldRest}
 use Rattle.header.specs.Laws.{elements-lone, elements-more, elements-none}
-use native.Mathlib.Nat.{add-sub-cancel-left}
 use native.Mathlib.Numerals.{add-one, add-two}
 use mir.Syntax.{w8, w16, w64}
 use mir.Val.{Fits}
 use borrow.Author.Needs.{needs}
+use Rattle.types.specs.Refusals.{Outcome, refused, gives}
 use Rattle.octets.specs.Octets.{numberOf}
 use Rattle.header.specs.declared.Concatenation.{Concatenation}
 use Rattle.header.specs.declared.Element.the-variants as element
@@ -135,35 +135,67 @@ pub plus-other : (s : Seen) (a : ℕ) (o : List ℕ) → (a ≡ 0x00 → ⊥) �
 unfolding added
 plus-other s a o p q r t = rw (ne-eqb _ _ p, ne-eqb _ _ q, ne-eqb _ _ r, ne-eqb _ _ t)
 
--- ---- one step of the walk, at the place i below the end: r stands there
-pub walked-end : (h : List ℕ) (i : ℕ) (s : Seen) → length h ≤ i → whole.Header s ≡ walked h i s
-walked-end h i s l = rw (drop-of-length-le h l, elements-none)
+-- ---- one step of reading the rest, at the place i: at the end, or below it, where r stands
+pub rest-end : (h : List ℕ) (i : ℕ) (s : Seen) → length h ≤ i → gives s ≡ toldWalked (walked h i s)
+rest-end h i s l = rw (drop-of-length-le h l, elements-none)
 
 collected-more : (s : Seen) (e : Item) (o : Option (List Item)) → collected (added s e) o ≡ collected s (e ∷? o)
 collected-more s e none = refl
 collected-more s e (some es) = refl
 
 module _ (h : List ℕ) (i : ℕ) (r : Element) (l : i < length h) (rule : r ≡ firstElement i (drop i h)) where
-  pub walked-past : (s : Seen) → r ≡ element.Past → whole.Past ≡ walked h i s
-  walked-past s e = rw (elements-at h i l, ← rule, e)
+  pub rest-past : (s : Seen) → r ≡ element.Past → refused 3 ≡ toldWalked (walked h i s)
+  rest-past s e = rw (elements-at h i l, ← rule, e)
 
   module _ (a b n : ℕ) (next : Cursor) (found : r ≡ element.Read a b n next) where
-    pub walked-read : (s s′ : Seen) (o : Walked) → s′ ≡ added s (item a (take (b + n - b) (drop b h))) → o ≡ walked h (next .at) s′ → o ≡ walked h i s
-    walked-read s s′ o e w =
-        rw (elements-at h i l, ← rule, found)
-        (w ∙ rw (e, add-sub-cancel-left) (collected-more s (item a (take n (drop b h))) (elements (drop (next .at) h))))
-
     place : Stands i b n (next .at) (length h - i)
     place = rw length-drop at (read-place i (drop i h) (sym rule ∙ found))
 
-    pub own-end : b + n ≤ length h
+    own-length : next .at - b ≡ n
+    own-length = omega (arith, place)
+
+    -- the element's own octets end where the next one begins
+    pub own-start : b ≤ next .at
+    own-start = omega (arith, place)
+
+    pub own-end : next .at ≤ length h
     own-end = omega (arith, place)
 
-    pub own-fits : length h < 2 ^ 64 → Fits w64 (b + n)
-    own-fits m = omega (arith, place)
+    one-more : (s : Seen) → walked h (next .at) (added s (item a (take n (drop b h)))) ≡ walked h i s
+    one-more s = rw (elements-at h i l, ← rule, found) (collected-more s (item a (take n (drop b h))) (elements (drop (next .at) h)))
+
+    pub rest-read : (s s′ : Seen) (o : Outcome Seen) → s′ ≡ added s (item a (take (next .at - b) (drop b h)))
+        → o ≡ toldWalked (walked h (next .at) s′) → o ≡ toldWalked (walked h i s)
+    rest-read s s′ o e w =
+        let same : walked h (next .at) s′ ≡ walked h i s = rw (e, own-length) (one-more s) in
+        w ∙ ap toldWalked same
 
     pub step-falls : (t : ℕ) → length h - i ≡ t → length h - next .at < t
     step-falls t e = omega (arith, place)
+
+-- ---- what was seen is taken up, has one element more, and is laid down
+pub laid-more : (laid more seen s : Seen) (e : Item) → laid ≡ more → more ≡ added seen e → seen ≡ s → laid ≡ added s e
+laid-more laid more seen s e down plus up = down ∙ plus ∙ ap (λ x. added x e) up
+
+-- ---- the answer of `walk`, read back from the number
+back-past : (w : Walked) (n : ℕ) → refused n ≡ toldWalked w → whole.Past ≡ w
+back-past whole.Past n e = refl
+back-past (whole.Header s) n e = let z : _≡_ {A = ℕ} 0 1 = cc in absurd (omega arith)
+
+back-header : (w : Walked) (s : Seen) → gives s ≡ toldWalked w → whole.Header s ≡ w
+back-header whole.Past s e = let z : _≡_ {A = ℕ} 0 1 = cc in absurd (omega arith)
+back-header (whole.Header t) s e = cc
+
+module _ (h : List ℕ) (i n : ℕ) (after before s : Seen) (rest : toldRest n after ≡ toldWalked (walked h i before)) (laid : before ≡ s) where
+  pub answer-past : (n ≡ 0 → ⊥) → whole.Past ≡ walked h i s
+  answer-past other =
+      let number : refused n ≡ toldRest n after = rw (ne-eqb _ _ other) in
+      back-past _ n (number ∙ rest) ∙ ap (walked h i) laid
+
+  pub answer-header : (seen : Seen) → n ≡ 0 → seen ≡ after → whole.Header seen ≡ walked h i s
+  answer-header seen is-zero up =
+      let number : gives seen ≡ toldRest n after = rw (is-zero, up) in
+      back-header _ seen (number ∙ rest) ∙ ap (walked h i) laid
 
 pub wide-told : (n : ℕ) (o : List ℕ) → n ≡ numberOf (getD o 0 0) (getD o 1 0)
     → _≡_ {A = Concatenation} (record { width = 16; reference = n; total = getD o 2 0; number = getD o 3 0 }) (wideIn o)
@@ -186,11 +218,14 @@ pub ruleset steps = (
   wrong-command,
   wrong-response,
   plus-other,
-  walked-end,
-  walked-past,
-  walked-read,
+  rest-end,
+  rest-past,
+  rest-read,
+  own-start,
   own-end,
-  own-fits,
   step-falls,
+  laid-more,
+  answer-past,
+  answer-header,
   wide-told,
 )

@@ -6,6 +6,7 @@ use mathlib.Core.Bool.{Bool, true, false, not, cond, _||_}
 use mathlib.Core.Option.{Option, none, some}
 use lib.ListN.{length, getD, drop}
 use lib.Dec.{eqb, leb}
+use Rattle.types.specs.Refusals.{Outcome, refused, gives}
 use Rattle.octets.specs.Octets.{numberOf}
 use Rattle.header.specs.declared.Concatenation.{Concatenation}
 use Rattle.header.specs.declared.Seen.{Seen}
@@ -76,3 +77,23 @@ collected s (some es) = whole.Header (seenAfter s es)
 
 abbrev pub walked : List ℕ → ℕ → Seen → Walked
 walked h at s = collected s (elements (drop at h))
+
+-- ---- the walk's answer in 01's words
+-- "Once one element cannot be read, the whole header is refused": 3, or else what its elements say together.
+abbrev pub toldWalked : Walked → Outcome Seen
+toldWalked whole.Past = refused 3
+toldWalked (whole.Header s) = gives s
+
+-- What was seen lies in four flags, three octets and a number while the header is read.
+abbrev pub seenIn : List Bool → List ℕ → ℕ → Seen
+seenIn flags octets n = record {
+  wrong = getD flags 0 false;
+  twice = getD flags 1 false;
+  concatenation = record { width = getD octets 0 0; reference = n; total = getD octets 1 0; number = getD octets 2 0 };
+  command = getD flags 2 false;
+  response = getD flags 3 false;
+}
+
+-- The number that reading the rest of a header answers: that of a refusal, or 0 beside what was seen.
+abbrev pub toldRest : ℕ → Seen → Outcome Seen
+toldRest n s = cond (eqb n 0) (gives s) (refused n)

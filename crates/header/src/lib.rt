@@ -2,7 +2,7 @@
 ghost use mathlib.Core.Path.{_≡_};
 ghost use lib.ListN.{length, drop};
 ghost use Rattle.header.specs.Header.{item};
-ghost use Rattle.header.specs.Reading.{firstElement, narrowIn, wideIn, nothingSeen, wrongSeen, concatenationSeen, commandSeen, responseSeen, added, walked};
+ghost use Rattle.header.specs.Reading.{firstElement, narrowIn, wideIn, nothingSeen, wrongSeen, concatenationSeen, commandSeen, responseSeen, added, walked, toldWalked, seenIn, toldRest};
 
 // What a concatenation element says: the width of its reference in bits, the reference, how many parts there are and which this is.
 pub struct Concatenation {
@@ -195,23 +195,85 @@ impl Seen {
     }
 }
 
-// The element at the cursor, and then the rest of the header in the same way: what they say together, on top of what was seen before.
-pub fn walk(h: &[u8], cursor: Cursor, seen: Seen) -> Walked
-    ensures { λ r. ⌜ r ≡ walked (now (h .entry)) (cursor .at) seen ⌝ }
+// What was seen, as it lies in what a walk was lent: four flags (an element of wrong length, one given twice, the two packet identifiers), three
+// octets (a concatenation's width, total and number), and its reference.
+fn seen_in(flags: &[bool; 4], octets: &[u8; 3], reference: u16) -> Seen
+    ensures { λ r. ⌜ r ≡ seenIn (now (flags .entry)) (now (octets .entry)) reference ⌝ }
 {
+    Seen {
+        wrong: flags[0],
+        twice: flags[1],
+        concatenation: Concatenation {
+            width: octets[0],
+            reference,
+            total: octets[1],
+            number: octets[2],
+        },
+        command: flags[2],
+        response: flags[3],
+    }
+}
+
+// Lays down what was seen.
+fn lay(seen: Seen, flags: &mut [bool; 4], octets: &mut [u8; 3], reference: &mut u16)
+    ensures { λ _. ⌜ seenIn (now (flags .exit)) (now (octets .exit)) (now (reference .exit)) ≡ seen ⌝ }
+{
+    let c = seen.concatenation;
+    *flags = [seen.wrong, seen.twice, seen.command, seen.response];
+    *octets = [c.width, c.total, c.number];
+    *reference = c.reference;
+}
+
+// Lays one more element, with the octets that are its own, to what was seen.
+fn lay_more(id: u8, own: &[u8], flags: &mut [bool; 4], octets: &mut [u8; 3], reference: &mut u16)
+    ensures { λ _. ⌜ seenIn (now (flags .exit)) (now (octets .exit)) (now (reference .exit)) ≡ added (seenIn (now (flags .entry)) (now (octets .entry)) (now (reference .entry))) (item id (now (own .entry))) ⌝ }
+{
+    let seen = seen_in(flags, octets, *reference);
+    lay(seen.plus(id, own), flags, octets, reference);
+}
+
+// Reads one element and then the rest of the header in the same way: 0, or 3, the number of refusal, once one cannot be read. All that it is handed
+// and answers fits a register, the header since it comes as a reference to the slice: so the compiler makes a loop of the recursion, and a card's
+// stack does not grow with the elements (docs/PROVING.md, "The stack of a walk").
+fn read_rest(
+    h: &&[u8],
+    cursor: Cursor,
+    flags: &mut [bool; 4],
+    octets: &mut [u8; 3],
+    reference: &mut u16,
+) -> u8
+    ensures { λ r. ⌜ toldRest r (seenIn (now (flags .exit)) (now (octets .exit)) (now (reference .exit))) ≡ toldWalked (walked (now (now (h .entry))) (cursor .at) (seenIn (now (flags .entry)) (now (octets .entry)) (now (reference .entry)))) ⌝ }
+{
+    let header = *h;
     let at = cursor.at;
-    if h.len() <= at {
-        return Walked::Header(seen);
+    if header.len() <= at {
+        return 0;
     }
     let Element::Read {
         id,
         start,
-        len,
         next,
-    } = cursor.element(h)
+        ..
+    } = cursor.element(header)
     else {
-        return Walked::Past;
+        return 3;
     };
-    let end = start + len;
-    walk(h, next, seen.plus(id, &h[start..end]))
+    let end = next.at;
+    lay_more(id, &header[start..end], flags, octets, reference);
+    read_rest(h, next, flags, octets, reference)
+}
+
+// The elements from the cursor on: what they say together, on top of what was seen before.
+pub fn walk(h: &[u8], cursor: Cursor, seen: Seen) -> Walked
+    ensures { λ r. ⌜ r ≡ walked (now (h .entry)) (cursor .at) seen ⌝ }
+{
+    let mut flags = [false; 4];
+    let mut octets = [0; 3];
+    let mut reference = 0;
+    lay(seen, &mut flags, &mut octets, &mut reference);
+    let refusal = read_rest(&h, cursor, &mut flags, &mut octets, &mut reference);
+    if refusal != 0 {
+        return Walked::Past;
+    }
+    Walked::Header(seen_in(&flags, &octets, reference))
 }
