@@ -29,7 +29,8 @@ keyFormed k x = cond (ofPages x) (pageKeyFormed k x) (messageKeyFormed x)
 abbrev pub totalFits : Key → ℕ → Bool
 totalFits x t = leb 2 t && leb t (cond (ofPages x) 15 mostParts)
 
--- "at most 134, with 16-bit references 133 (part 1: 132 and 131; pages: exactly 82 ..)"
+-- "at most 134, with 16-bit references 133 (part 1: 132 and 131; pages: exactly 82 ..)". Of 140 octets of user data UDHL takes one and the
+-- concatenation element five, with a 16-bit reference six; in part 1 the packet identifier takes two more: 140 - 1 - 5 = 134, 140 - 1 - 6 - 2 = 131.
 abbrev pub room : ℕ → ℕ → ℕ
 room width number = cond (eqb width 16) 133 134 - cond (eqb number 1) 2 0
 

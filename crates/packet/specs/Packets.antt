@@ -1,5 +1,20 @@
 -- Secured packets (01, "Packets"). A kind is its layout, counted behind the two lengths CPL and CHL (RPL and RHL); everything else is said
--- once for both kinds.
+-- once for both kinds. Where each field stands, the first octet of a packet being 0, and h its CHL or RHL:
+--
+--   command       octets         response      octets
+--   CPL           0, 1           RPL           0, 1
+--   CHL           2              RHL           2
+--   SPI           3, 4
+--   KIc           5
+--   KID           6
+--   TAR           7 to 9         TAR           3 to 5
+--   CNTR          10 to 14       CNTR          6 to 10
+--   PCNTR         15             PCNTR         11
+--                                status        12
+--   check field   16 to h + 2    check field   13 to h + 2
+--   data          from h + 3     data          from h + 3
+--
+-- With h 13 in a command, or 10 in a response, the check field has no octets. A ciphered body begins at CNTR.
 use Prim.Native.Nat.{ℕ, _+_, _-_, _/_, _%_}
 use mathlib.Core.Bool.{Bool, true, false, not, _&&_, _||_}
 use mathlib.Core.List.{List, [], _∷_, _++_}

@@ -83,11 +83,12 @@ leastRecent n xs = slotOr 0 (find (isLeastRecent n) xs)
 
 -- ---- recency
 -- Rank q after a slot of rank r has come to the front: what was more recent than it is one less so; a free slot, of rank 0, was less recent
--- than all.
+-- than all. If the third of the ranks 1, 2, 3 is touched they become 2, 3, 1.
 unfoldable pub aged : ℕ → ℕ → ℕ
 aged r q = cond (not (eqb q 0) && (eqb r 0 || ltb q r)) (suc q) q
 
--- Rank q after a slot of rank r was freed: "other slots keep their order", without a gap.
+-- Rank q after a slot of rank r was freed: "other slots keep their order", without a gap. If the second of the ranks 1, 2, 3 is freed they
+-- become 1, 0, 2.
 unfoldable pub closed : ℕ → ℕ → ℕ
 closed r q = cond (ltb r q) (pred q) q
 
