@@ -12,25 +12,25 @@ use Rattle.demands.specs.Runs.{Call, Each}
 use Rattle.demands.specs.Wake.{complete, Seen, seen, follow, EachWith}
 
 abbrev pub All : (Call → Type 0) → List Call → Type 0
-All P [] = Unit {0}
-All P (c ∷ cs) = P c × All P cs
+All Claim [] = Unit {0}
+All Claim (c ∷ cs) = Claim c × All Claim cs
 
-pub each : (P : Call → Type 0) (calls : List Call) → All P calls → Each P calls
-each P [] a [] d v e = absurd (nil≢cons e)
-each P [] a (c ∷ u) d v e = absurd (nil≢cons e)
-each P (c ∷ cs) a [] d v e = subst P (head-eq-of-cons-eq e) (a .0)
-each P (c ∷ cs) a (x ∷ u) d v e = each P cs (a .1) u d v (tail-eq-of-cons-eq e)
+pub each : (Claim : Call → Type 0) (calls : List Call) → All Claim calls → Each Claim calls
+each Claim [] a [] d v e = absurd (nil≢cons e)
+each Claim [] a (c ∷ u) d v e = absurd (nil≢cons e)
+each Claim (c ∷ cs) a [] d v e = subst Claim (head-eq-of-cons-eq e) (a .0)
+each Claim (c ∷ cs) a (x ∷ u) d v e = each Claim cs (a .1) u d v (tail-eq-of-cons-eq e)
 
-module _ (n : ℕ) (k : Kind) (K : Key) (t : ℕ) (P : Seen → Call → (total number start : ℕ) → Type 0) where
+module _ (n : ℕ) (k : Kind) (K : Key) (t : ℕ) (Claim : Seen → Call → (total number start : ℕ) → Type 0) where
   abbrev pub Here : Seen → Call → Type 0
   Here w c =
-      (total number start : ℕ) → read k (c .input) ≡ reading.gives (part K total number start) → complete t (w .got) ≡ false → P w c total number start
+      (total number start : ℕ) → read k (c .input) ≡ reading.gives (part K total number start) → complete t (w .arrived) ≡ false → Claim w c total number start
 
   abbrev pub Along : Seen → List Call → Type 0
   Along w [] = Unit {0}
   Along w (c ∷ cs) = Here w c × Along (seen n k K w c) cs
 
-  pub each-with : (calls : List Call) (w : Seen) → Along w calls → EachWith n k K t P w calls
+  pub each-with : (calls : List Call) (w : Seen) → Along w calls → EachWith n k K t Claim w calls
   each-with [] w a [] d v e = absurd (nil≢cons e)
   each-with [] w a (c ∷ u) d v e = absurd (nil≢cons e)
   each-with (c ∷ cs) w a [] d v e = subst (Here w) (head-eq-of-cons-eq e) (a .0)

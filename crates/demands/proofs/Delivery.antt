@@ -61,32 +61,32 @@ module _ (n : ℕ) (pos : 0 < n) (k : Kind) (K : Key) (P : List ℕ) (t : ℕ) (
   module _ (several : t ≡ 1 → ⊥) where
     -- after a call that brings part m: m has come, and no other key since
     seen-part : (w : Seen) (m : ℕ) → 1 ≤ m → m ≤ t → (c : Call) → c .input ≡ written m
-        → (seen n k K w c .got ≡ add m (w .got)) × (seen n k K w c .since ≡ [])
+        → (seen n k K w c .arrived ≡ add m (w .arrived)) × (seen n k K w c .othersSince ≡ [])
     seen-part w m low high c is =
-        subst (λ (r : reading.Outcome Brought). (seenAfter n k K w a r .got ≡ add m (w .got)) × (seenAfter n k K w a r .since ≡ [])) (sym (ap (read k) is ∙ splits .reads several m low high))
-        (subst (λ (b : Bool). (seenPart n k K w a K m b .got ≡ add m (w .got)) × (seenPart n k K w a K m b .since ≡ [])) (sym (key-same K K refl)) (refl, refl))
+        subst (λ (r : reading.Outcome Brought). (seenAfter n k K w a r .arrived ≡ add m (w .arrived)) × (seenAfter n k K w a r .othersSince ≡ [])) (sym (ap (read k) is ∙ splits .reads several m low high))
+        (subst (λ (b : Bool). (seenPart n k K w a K m b .arrived ≡ add m (w .arrived)) × (seenPart n k K w a K m b .othersSince ≡ [])) (sym (key-same K K refl)) (refl, refl))
       where
         a : After
         a = outcome n (w .store) c
 
-    all-sent : {order : List ℕ} {calls : List Call} → Brings t written order calls → (w : Seen) → w .since ≡ [] → Along n k K t (Sent n t written) w calls
+    all-sent : {order : List ℕ} {calls : List Call} → Brings t written order calls → (w : Seen) → w .othersSince ≡ [] → Along n k K t (Sent n t written) w calls
     all-sent nothing-more w z = tt
     all-sent (next m low high c is size rest) w z = (
-      (λ total number start e o. record { which = m; low = low; high = high; is = is; soon = λ ne. rw z pos }),
+      (λ total number start e o. record { which = m; low = low; high = high; is = is; fewOthers = λ ne. rw z pos }),
       all-sent rest (seen n k K w c) (seen-part w m low high c is .1),
     )
 
     -- what has come stays, and each number of the order has come in the end
-    got-stays : {order : List ℕ} {calls : List Call} → Brings t written order calls → (w : Seen) (j : ℕ) → elem j (w .got) ≡ true → elem j (follow n k K w calls .got) ≡ true
+    got-stays : {order : List ℕ} {calls : List Call} → Brings t written order calls → (w : Seen) (j : ℕ) → elem j (w .arrived) ≡ true → elem j (follow n k K w calls .arrived) ≡ true
     got-stays nothing-more w j e = e
     got-stays (next m low high c is size rest) w j e =
-        got-stays rest (seen n k K w c) j (ap (elem j) (seen-part w m low high c is .0) ∙ elem-still m j (w .got) e)
+        got-stays rest (seen n k K w c) j (ap (elem j) (seen-part w m low high c is .0) ∙ elem-still m j (w .arrived) e)
 
-    got-all : {order : List ℕ} {calls : List Call} → Brings t written order calls → (w : Seen) (j : ℕ) → elem j order ≡ true → elem j (follow n k K w calls .got) ≡ true
+    got-all : {order : List ℕ} {calls : List Call} → Brings t written order calls → (w : Seen) (j : ℕ) → elem j order ≡ true → elem j (follow n k K w calls .arrived) ≡ true
     got-all nothing-more w j e = absurd (clash false e refl)
     got-all (next {order = order} m low high c is size rest) w j e =
         first-or-later j m order e
-        (λ p. got-stays rest (seen n k K w c) j (ap (elem j) (seen-part w m low high c is .0) ∙ elem-add m j (w .got) ∙ rw (eq-eqb j m p)))
+        (λ p. got-stays rest (seen n k K w c) j (ap (elem j) (seen-part w m low high c is .0) ∙ elem-add m j (w .arrived) ∙ rw (eq-eqb j m p)))
         (λ f. got-all rest (seen n k K w c) j f)
 
     module _ (cells : List ℕ) (earlier : List Call) (size : length cells ≡ cellsSize n) (before : Each Proper earlier)
@@ -102,7 +102,7 @@ module _ (n : ℕ) (pos : 0 < n) (k : Kind) (K : Key) (P : List ℕ) (t : ℕ) (
           record {
             answered = all-served n pos k K P t octets written splits (below one) cells earlier calls s sent;
             comes = it-comes n pos k K P t octets written splits (below one) cells earlier calls s sent
-                (all-hold t (λ i. elem (i + 1) (follow n k K w calls .got)) (λ i l. got-all brings w (i + 1) (all-at t (λ i. elem (i + 1) order) all i l)));
+                (all-hold t (λ i. elem (i + 1) (follow n k K w calls .arrived)) (λ i l. got-all brings w (i + 1) (all-at t (λ i. elem (i + 1) order) all i l)));
           }
         where
           below : 1 ≤ t → 2 ≤ t

@@ -67,20 +67,20 @@ module _ (b : ℕ) where
   fair-first : Fair′ w₀ (first b)
   unfolding elementsAfter summary judged readMessage
   fair-first total number start e o =
-      let (k, t, m, s) = same-part e in record { counted = sym t; brought = rw (← m, ← s); soon = λ ne. absurd (ne refl) }
+      let (k, t, m, s) = same-part e in record { counted = sym t; brought = rw (← m, ← s); fewOthers = λ ne. absurd (ne refl) }
 
   fair-other : (w : Seen) (sender : ℕ) → (sender ≡ 1 → ⊥) → Fair′ w (other b sender)
   unfolding elementsAfter summary judged readMessage
   fair-other w sender ne total number start e o = absurd (ne (ap (λ (k : Key). k .sender) (same-part e .0)))
 
-  two-keys : length (w₃ .since) ≡ 2
+  two-keys : length (w₃ .othersSince) ≡ 2
   unfolding sameOctets placed joined elementsAfter summary judged readMessage keyFormed lengthFits allBelow anyBelow countBelow find aged closed toFront freed allZero usedFormed slotFormed keysDiffer ranked slotsFormed cellPart joinedOctets packetIn step takePart takeMessage
   two-keys = refl
 
   fair-second : Fair′ w₃ (second b)
   unfolding elementsAfter summary judged readMessage
   fair-second total number start e o =
-      let (k, t, m, s) = same-part e in record { counted = sym t; brought = rw (← m, ← s); soon = λ ne. omega (arith, two-keys) }
+      let (k, t, m, s) = same-part e in record { counted = sym t; brought = rw (← m, ← s); fewOthers = λ ne. omega (arith, two-keys) }
 
   comes : outcome slotCount (run slotCount (fresh slotCount Command (cells b)) (first b ∷ other b 2 ∷ other b 3 ∷ [])) (second b) .answer ≡ packet 16
   unfolding sameOctets placed joined elementsAfter summary judged readMessage keyFormed lengthFits allBelow anyBelow countBelow find aged closed toFront freed allZero usedFormed slotFormed keysDiffer ranked slotsFormed cellPart joinedOctets packetIn step takePart takeMessage

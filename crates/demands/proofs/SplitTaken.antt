@@ -79,7 +79,7 @@ module _ (n : ℕ) (pos : 0 < n) (k : Kind) (K : Key) (P : List ℕ) (t : ℕ) (
         counted = sym t′ ∙ sym (length-listed octets t);
         brought = rw (← f′, ← m′) (ap (λ (i : Input). drop (from (s .which)) (octetsOf i)) (s .is) ∙ splits .own (s .which)
             ∙ ap octets (omega arith) ∙ sym (listed-at octets [] t (s .which - 1) (omega arith)));
-        soon = s .soon;
+        fewOthers = s .fewOthers;
       }
 
   module _ (cells : List ℕ) (earlier calls : List Call) (s : Sending n k K P cells earlier calls) where
@@ -106,10 +106,10 @@ module _ (n : ℕ) (pos : 0 < n) (k : Kind) (K : Key) (P : List ℕ) (t : ℕ) (
       pub all-served : EachWith n k K (length (listed octets t)) (Served n k K P (listed octets t)) w calls
       all-served = wake-window n pos k K P (listed octets t) cells earlier calls starts all-fair
 
-      pub it-comes : complete t (follow n k K w calls .got) ≡ true → Comes n k K P (listed octets t) w calls
+      pub it-comes : complete t (follow n k K w calls .arrived) ≡ true → Comes n k K P (listed octets t) w calls
       it-comes all =
           packet-comes n pos k K P (listed octets t) cells earlier calls starts all-fair
-          (subst (λ (m : ℕ). complete m (follow n k K w calls .got) ≡ true) (sym (length-listed octets t)) all)
+          (subst (λ (m : ℕ). complete m (follow n k K w calls .arrived) ≡ true) (sym (length-listed octets t)) all)
 
   arrives : Arrives n k K P t octets written
   arrives cells earlier calls s sent all = it-comes cells earlier calls s sent all

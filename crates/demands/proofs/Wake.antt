@@ -43,7 +43,7 @@ complete-more t m got e = all-hold t (λ i. elem (i + 1) (add m got)) (λ i l. e
 
 module _ (n : ℕ) (pos : 0 < n) (k : Kind) (K : Key) (P : List ℕ) (parts : List (List ℕ)) (good : wellFormed k P ≡ true) (cut : Cut K P parts) (two : 2 ≤ length parts) where
   abbrev PhaseOf : Seen → Type 0
-  PhaseOf w = Phase n K parts (w .store .rec .slots) (w .store .cells) (w .got) (w .slot) (w .since)
+  PhaseOf w = Phase n K parts (w .store .rec .slots) (w .store .cells) (w .arrived) (w .slot) (w .othersSince)
 
   -- ---- one call
   module _ (q : Seen) (w : Kept n k (q .store)) (c : Call) (p : Proper c) where
@@ -59,11 +59,11 @@ module _ (n : ℕ) (pos : 0 < n) (k : Kind) (K : Key) (P : List ℕ) (parts : Li
     -- the premise, and what is to be shown
     abbrev Asked : Type 0
     Asked =
-        (total number start : ℕ) → read k (c .input) ≡ reading.gives (part K total number start) → complete (length parts) (q .got) ≡ false → Fair n k K P parts q c total number start
+        (total number start : ℕ) → read k (c .input) ≡ reading.gives (part K total number start) → complete (length parts) (q .arrived) ≡ false → Fair n k K P parts q c total number start
 
     abbrev Given : reading.Outcome Brought → After → Type 0
     Given r a =
-        ((total number start : ℕ) → r ≡ reading.gives (part K total number start) → complete (length parts) (q .got) ≡ false → Serves n k K P parts q c number a)
+        ((total number start : ℕ) → r ≡ reading.gives (part K total number start) → complete (length parts) (q .arrived) ≡ false → Serves n k K P parts q c number a)
         × PhaseOf (seenAfter n k K q a r)
 
     module _ (ph : PhaseOf q) (fair : Asked) where
@@ -74,45 +74,45 @@ module _ (n : ℕ) (pos : 0 < n) (k : Kind) (K : Key) (P : List ℕ) (parts : Li
       case-here X total number start = case-of n s X total number (drop start o) pos (w .sound .formed)
 
       -- a call with the key, while parts are missing
-      own-part : (total number start : ℕ) → read k (c .input) ≡ reading.gives (part K total number start) → complete (length parts) (q .got) ≡ false
+      own-part : (total number start : ℕ) → read k (c .input) ≡ reading.gives (part K total number start) → complete (length parts) (q .arrived) ≡ false
           → Serves n k K P parts q c number (takePart n s K total number (drop start o))
       unfolding takePart
       own-part total number start e unfinished =
           let f = fair total number start e unfinished in
           let adm = admits k c (p .octets) K total number start e in
           subst (λ (t : ℕ). Serves n k K P parts q c number (takePart n s K t number (drop start o))) (sym (f .counted))
-          (go ph (subst (λ (t : ℕ). Admitted k K t number (drop start o)) (f .counted) adm) (f .brought) (f .soon))
+          (go ph (subst (λ (t : ℕ). Admitted k K t number (drop start o)) (f .counted) adm) (f .brought) (f .fewOthers))
         where
-          go : PhaseOf q → Admitted k K (length parts) number (drop start o) → drop start o ≡ getD parts (number - 1) [] → ((q .got ≡ [] → ⊥) → length (q .since) < n)
+          go : PhaseOf q → Admitted k K (length parts) number (drop start o) → drop start o ≡ getD parts (number - 1) [] → ((q .arrived ≡ [] → ⊥) → length (q .othersSince) < n)
               → Serves n k K P parts q c number (takePart n s K (length parts) number (drop start o))
           go (before z lacks) adm brought soon =
               fine-first n k K P parts good cut two q c (w .kind) formed-here (w .sound .size) number (drop start o) adm brought z lacks
               (step n s K (length parts) number (drop start o)) (case-here K (length parts) number start)
           go (during ne track) adm brought soon =
-              fine-known n k K P parts good cut two q c (w .kind) formed-here (w .sound .size) number (drop start o) adm brought ne (q .since) (track (soon ne)) unfinished
+              fine-known n k K P parts good cut two q c (w .kind) formed-here (w .sound .size) number (drop start o) adm brought ne (q .othersSince) (track (soon ne)) unfinished
               (step n s K (length parts) number (drop start o)) (case-here K (length parts) number start)
-          go (done d) adm brought soon = absurd (clash (complete (length parts) (q .got)) d unfinished)
+          go (done d) adm brought soon = absurd (clash (complete (length parts) (q .arrived)) d unfinished)
 
       -- any call
-      handed : (r : Record) (x : Option (List ℕ)) → Phase n K parts (r .slots) (q .store .cells) (q .got) (q .slot) (q .since)
-          → Phase n K parts (handOut s r x .state .rec .slots) (handOut s r x .state .cells) (q .got) (q .slot) (q .since)
+      handed : (r : Record) (x : Option (List ℕ)) → Phase n K parts (r .slots) (q .store .cells) (q .arrived) (q .slot) (q .othersSince)
+          → Phase n K parts (handOut s r x .state .rec .slots) (handOut s r x .state .cells) (q .arrived) (q .slot) (q .othersSince)
       handed r none h = h
       handed r (some x) h = h
 
       by-key : (X : Key) (total number start : ℕ) → read k (c .input) ≡ reading.gives (part X total number start) → (b : Bool) → sameKey X K ≡ b
           → PhaseOf (seenPart n k K q (takePart n s X total number (drop start o)) X number b)
       unfolding takePart
-      by-key X total number start e true same = go (complete (length parts) (q .got)) refl
+      by-key X total number start e true same = go (complete (length parts) (q .arrived)) refl
         where
-          go : (b : Bool) → complete (length parts) (q .got) ≡ b → PhaseOf (seenPart n k K q (takePart n s X total number (drop start o)) X number true)
-          go true d = done (complete-more (length parts) number (q .got) d)
+          go : (b : Bool) → complete (length parts) (q .arrived) ≡ b → PhaseOf (seenPart n k K q (takePart n s X total number (drop start o)) X number true)
+          go true d = done (complete-more (length parts) number (q .arrived) d)
           go false d =
               let x : X ≡ K = same-key X K same in
               subst (λ (Y : Key). PhaseOf (seenPart n k K q (takePart n s Y total number (drop start o)) Y number true)) (sym x)
               (own-part total number start (e ∙ ap (λ (Y : Key). reading.gives (part Y total number start)) x) d .phase)
       by-key X total number start e false same =
           other-part n K parts k s formed-here (w .sound .size) X (λ x. clash (sameKey X K) (key-same X K x) same) total number (drop start o)
-          (admits k c (p .octets) X total number start e) (q .got) (q .slot) (q .since) (step n s X total number (drop start o)) (case-here X total number start) ph
+          (admits k c (p .octets) X total number start e) (q .arrived) (q .slot) (q .othersSince) (step n s X total number (drop start o)) (case-here X total number start) ph
 
       given : (r : reading.Outcome Brought) → read k (c .input) ≡ r → Given r (taken n s (isPage (c .input)) o r)
       given r e = (λ t m st eq u. subst (λ (r : reading.Outcome Brought). Serves n k K P parts q c m (taken n s (isPage (c .input)) o r)) (sym eq) (own-part t m st (e ∙ eq) u), phase r e)
@@ -151,7 +151,7 @@ module _ (n : ℕ) (pos : 0 < n) (k : Kind) (K : Key) (P : List ℕ) (parts : Li
   proper-rest c cs all u d v e = all (c ∷ u) d v (ap (λ (l : List Call). c ∷ l) e)
 
   at-cut : (u : List Call) (q : Seen) → Kept n k (q .store) → PhaseOf q → (c : Call) (v : List Call) → Each Proper (u ++ c ∷ v) → All q (u ++ c ∷ v)
-      → (total number start : ℕ) → read k (c .input) ≡ reading.gives (part K total number start) → complete (length parts) (follow n k K q u .got) ≡ false
+      → (total number start : ℕ) → read k (c .input) ≡ reading.gives (part K total number start) → complete (length parts) (follow n k K q u .arrived) ≡ false
       → Serves n k K P parts (follow n k K q u) c number (outcome n (follow n k K q u .store) c)
   at-cut [] q w ph c v ps f = one-call q w c (ps [] c v refl) ph (f [] c v refl) .0
   at-cut (d ∷ u) q w ph c v ps f =
@@ -166,21 +166,21 @@ module _ (n : ℕ) (pos : 0 < n) (k : Kind) (K : Key) (P : List ℕ) (parts : Li
   -- ---- the call that brings the last missing part
   -- a call after which no part is missing, where one was before it, brings the last of them
   last-call : (q : Seen) (c : Call) (a : After) (r : reading.Outcome Brought) → read k (c .input) ≡ r → outcome n (q .store) c ≡ a
-      → ((total number start : ℕ) → r ≡ reading.gives (part K total number start) → complete (length parts) (q .got) ≡ false → Fair n k K P parts q c total number start)
-      → ((total number start : ℕ) → r ≡ reading.gives (part K total number start) → complete (length parts) (q .got) ≡ false → Serves n k K P parts q c number a)
-      → complete (length parts) (q .got) ≡ false → complete (length parts) (seenAfter n k K q a r .got) ≡ true → Last n k K P parts q c
-  last-call q c a (reading.refused m) b i f s o g = absurd (clash (complete (length parts) (q .got)) g o)
-  last-call q c a (reading.gives (single start)) b i f s o g = absurd (clash (complete (length parts) (q .got)) g o)
+      → ((total number start : ℕ) → r ≡ reading.gives (part K total number start) → complete (length parts) (q .arrived) ≡ false → Fair n k K P parts q c total number start)
+      → ((total number start : ℕ) → r ≡ reading.gives (part K total number start) → complete (length parts) (q .arrived) ≡ false → Serves n k K P parts q c number a)
+      → complete (length parts) (q .arrived) ≡ false → complete (length parts) (seenAfter n k K q a r .arrived) ≡ true → Last n k K P parts q c
+  last-call q c a (reading.refused m) b i f s o g = absurd (clash (complete (length parts) (q .arrived)) g o)
+  last-call q c a (reading.gives (single start)) b i f s o g = absurd (clash (complete (length parts) (q .arrived)) g o)
   last-call q c a (reading.gives (part X total number start)) b i f s o g = go (sameKey X K) refl g
     where
-      not-before : complete (length parts) (add number (q .got)) ≡ true → (b : Bool) → elem number (q .got) ≡ b → b ≡ false
-      not-before g true e = absurd (clash (complete (length parts) (q .got)) (rw (add-old number (q .got) e) at g) o)
+      not-before : complete (length parts) (add number (q .arrived)) ≡ true → (b : Bool) → elem number (q .arrived) ≡ b → b ≡ false
+      not-before g true e = absurd (clash (complete (length parts) (q .arrived)) (rw (add-old number (q .arrived) e) at g) o)
       not-before g false e = refl
 
-      go : (b : Bool) → sameKey X K ≡ b → complete (length parts) (seenPart n k K q a X number b .got) ≡ true → Last n k K P parts q c
+      go : (b : Bool) → sameKey X K ≡ b → complete (length parts) (seenPart n k K q a X number b .arrived) ≡ true → Last n k K P parts q c
       go true e g =
           let x : reading.gives (part X total number start) ≡ reading.gives (part K total number start) = ap (λ (Y : Key). reading.gives (part Y total number start)) (same-key X K e) in
-          let new = not-before g (elem number (q .got)) refl in
+          let new = not-before g (elem number (q .arrived)) refl in
           record {
             number = number;
             start = start;
@@ -189,20 +189,20 @@ module _ (n : ℕ) (pos : 0 < n) (k : Kind) (K : Key) (P : List ℕ) (parts : Li
             all = g;
             wakes = subst (Wakes n k K P parts q c) (sym i) (s total number start x o .wakes new g);
           }
-      go false e g = absurd (clash (complete (length parts) (q .got)) g o)
+      go false e g = absurd (clash (complete (length parts) (q .arrived)) g o)
 
-  handed-out : (calls : List Call) (q : Seen) → Kept n k (q .store) → PhaseOf q → Each Proper calls → All q calls → complete (length parts) (q .got) ≡ false
-      → complete (length parts) (follow n k K q calls .got) ≡ true → Comes n k K P parts q calls
-  handed-out [] q w ph ps f o g = absurd (clash (complete (length parts) (q .got)) g o)
+  handed-out : (calls : List Call) (q : Seen) → Kept n k (q .store) → PhaseOf q → Each Proper calls → All q calls → complete (length parts) (q .arrived) ≡ false
+      → complete (length parts) (follow n k K q calls .arrived) ≡ true → Comes n k K P parts q calls
+  handed-out [] q w ph ps f o g = absurd (clash (complete (length parts) (q .arrived)) g o)
   handed-out (c ∷ cs) q w ph ps f o g =
       let p = ps [] c cs refl in
       let r = one-call q w c p ph (f [] c cs refl) in
-      go (r .0) (complete (length parts) (seen n k K q c .got)) refl
+      go (r .0) (complete (length parts) (seen n k K q c .arrived)) refl
       (λ o′. handed-out cs (seen n k K q c) (sound-next q w c p) (r .1) (proper-rest c cs ps) (rest q c cs f) o′ g)
     where
-      go : ((total number start : ℕ) → read k (c .input) ≡ reading.gives (part K total number start) → complete (length parts) (q .got) ≡ false
+      go : ((total number start : ℕ) → read k (c .input) ≡ reading.gives (part K total number start) → complete (length parts) (q .arrived) ≡ false
           → Serves n k K P parts q c number (outcome n (q .store) c))
-          → (b : Bool) → complete (length parts) (seen n k K q c .got) ≡ b → (complete (length parts) (seen n k K q c .got) ≡ false → Comes n k K P parts (seen n k K q c) cs) → Comes n k K P parts q (c ∷ cs)
+          → (b : Bool) → complete (length parts) (seen n k K q c .arrived) ≡ b → (complete (length parts) (seen n k K q c .arrived) ≡ false → Comes n k K P parts (seen n k K q c) cs) → Comes n k K P parts q (c ∷ cs)
       go s true e ih = record { u = []; c = c; v = cs; where-it-is = refl; last = last-call q c (outcome n (q .store) c) (read k (c .input)) refl refl (f [] c cs refl) s o e }
       go s false e ih =
           let h = ih e in

@@ -164,10 +164,10 @@ module _ (n : ℕ) (K : Key) (parts : List (List ℕ)) where
 -- ---- a call with the key
 -- what it comes to, and how far the series has come with it
 pub record Serves (n : ℕ) (k : Kind) (K : Key) (P : List ℕ) (parts : List (List ℕ)) (q : Seen) (c : Call) (number : ℕ) (a : After) : Type 0 where
-  pub again : elem number (q .got) ≡ true → Repeated n k K P parts q c a
-  pub waits : elem number (q .got) ≡ false → complete (length parts) (add number (q .got)) ≡ false → Waits n k K P parts q c number a
-  pub wakes : elem number (q .got) ≡ false → complete (length parts) (add number (q .got)) ≡ true → Wakes n k K P parts q c a
-  pub phase : Phase n K parts (a .state .rec .slots) (a .state .cells) (add number (q .got)) (firstSlot (q .got) (slotOf (a .answer)) (q .slot)) []
+  pub again : elem number (q .arrived) ≡ true → Repeated n k K P parts q c a
+  pub waits : elem number (q .arrived) ≡ false → complete (length parts) (add number (q .arrived)) ≡ false → Waits n k K P parts q c number a
+  pub wakes : elem number (q .arrived) ≡ false → complete (length parts) (add number (q .arrived)) ≡ true → Wakes n k K P parts q c a
+  pub phase : Phase n K parts (a .state .rec .slots) (a .state .cells) (add number (q .arrived)) (firstSlot (q .arrived) (slotOf (a .answer)) (q .slot)) []
 
 module _ (n : ℕ) (k : Kind) (K : Key) (P : List ℕ) (parts : List (List ℕ)) (good : wellFormed k P ≡ true) (cut : Cut K P parts) (two : 2 ≤ length parts)
     (q : Seen) (c : Call) (kind : q .store .rec .kind ≡ k) (w : Formed n k (q .store .rec .slots)) (long : length (q .store .cells) ≡ cellsSize n)
@@ -189,39 +189,39 @@ module _ (n : ℕ) (k : Kind) (K : Key) (P : List ℕ) (parts : List (List ℕ))
 
   -- the part is kept in slot i, whose entry was x: the series' own, or one that is opened for it
   fine-kept : (i : ℕ) → i < n → (d : Bool) (x : Slot) → x .key ≡ K → x .total ≡ length parts → length (x .lengths) ≡ mostParts → length (x .held) ≡ mostParts
-      → ((m : ℕ) → 1 ≤ m → m ≤ mostParts → heldAt x m ≡ elem m (q .got))
-      → ((m : ℕ) → 1 ≤ m → m ≤ mostParts → elem m (q .got) ≡ true → (lengthAt x m ≤ cellOctets) × (cellPart (q .store .cells) x i m ≡ getD parts (m - 1) []))
-      → elem number (q .got) ≡ false → complete (length parts) (add number (q .got)) ≡ false
-      → (q .got ≡ [] → NewPlace n own i d) → ((q .got ≡ [] → ⊥) → (i ≡ q .slot) × (d ≡ false)) → firstSlot (q .got) i (q .slot) ≡ i
+      → ((m : ℕ) → 1 ≤ m → m ≤ mostParts → heldAt x m ≡ elem m (q .arrived))
+      → ((m : ℕ) → 1 ≤ m → m ≤ mostParts → elem m (q .arrived) ≡ true → (lengthAt x m ≤ cellOctets) × (cellPart (q .store .cells) x i m ≡ getD parts (m - 1) []))
+      → elem number (q .arrived) ≡ false → complete (length parts) (add number (q .arrived)) ≡ false
+      → (q .arrived ≡ [] → NewPlace n own i d) → ((q .arrived ≡ [] → ⊥) → (i ≡ q .slot) × (d ≡ false)) → firstSlot (q .arrived) i (q .slot) ≡ i
       → Fine (acted n s K (length parts) number o (keeps i d x))
   fine-kept i inside d x e t ls ms held octets new open′ first later named =
-      let tr = track-kept n K parts k own (w .size) (q .store .cells) long i inside x e t ls ms (q .got) held octets number (adm .low) high o small brought in
+      let tr = track-kept n K parts k own (w .size) (q .store .cells) long i inside x e t ls ms (q .arrived) held octets number (adm .low) high o small brought in
       record {
-        again = λ h. absurd (clash (elem number (q .got)) h new);
+        again = λ h. absurd (clash (elem number (q .arrived)) h new);
         waits = λ h m. record { slot = i; displaced = d; answer = refl; first = first; later = later; bears = tr .bears; cells = ap (placed (q .store .cells) (cellAt i number)) brought; output = refl };
-        wakes = λ h m. absurd (clash (complete (length parts) (add number (q .got))) m open′);
-        phase = rw named (during (add-not-nil number (q .got)) (λ few. tr));
+        wakes = λ h m. absurd (clash (complete (length parts) (add number (q .arrived))) m open′);
+        phase = rw named (during (add-not-nil number (q .arrived)) (λ few. tr));
       }
 
-  module _ (i : ℕ) (is : i ≡ q .slot) (since : List Key) (tr : Track n K parts own (q .store .cells) i (q .got) since) where
+  module _ (i : ℕ) (is : i ≡ q .slot) (since : List Key) (tr : Track n K parts own (q .store .cells) i (q .arrived) since) where
     used-slot : UsedSlot k (slotAt own i)
     used-slot = slot-tells k (slotAt own i) (w .slots i (tr .bears .inside)) (tr .bears .used)
 
     -- with the part, none is missing: as the slot has it, and as the calls have brought them
-    told : completes (slotAt own i) number ≡ complete (length parts) (add number (q .got))
+    told : completes (slotAt own i) number ≡ complete (length parts) (add number (q .arrived))
     told =
-        rw (tr .total) (all-same (length parts) (λ j. eqb (j + 1) number || markAt (slotAt own i) j) (λ j. eqb (j + 1) number || elem (j + 1) (q .got)) (λ j l. mark j l))
-        ∙ sym (complete-add (length parts) number (q .got))
+        rw (tr .total) (all-same (length parts) (λ j. eqb (j + 1) number || markAt (slotAt own i) j) (λ j. eqb (j + 1) number || elem (j + 1) (q .arrived)) (λ j l. mark j l))
+        ∙ sym (complete-add (length parts) number (q .arrived))
       where
-        mark : (j : ℕ) → j < length parts → eqb (j + 1) number || markAt (slotAt own i) j ≡ eqb (j + 1) number || elem (j + 1) (q .got)
+        mark : (j : ℕ) → j < length parts → eqb (j + 1) number || markAt (slotAt own i) j ≡ eqb (j + 1) number || elem (j + 1) (q .arrived)
         mark j l =
             let z : j + 1 - 1 ≡ j = omega arith in
-            let h : markAt (slotAt own i) j ≡ elem (j + 1) (q .got) =
+            let h : markAt (slotAt own i) j ≡ elem (j + 1) (q .arrived) =
             ap (markAt (slotAt own i)) (sym z) ∙ tr .held (j + 1) (omega arith) (omega (arith, total-bounds K (length parts) (adm .totalFits))) in
             rw h
 
     -- all parts in order, the one that arrives among them, are the parts of the packet
-    whole : complete (length parts) (add number (q .got)) ≡ true → joinedOctets (q .store .cells) (slotAt own i) i number o ≡ concat parts
+    whole : complete (length parts) (add number (q .arrived)) ≡ true → joinedOctets (q .store .cells) (slotAt own i) i number o ≡ concat parts
     unfolding joinedOctets
     whole full = rw (tr .total) (joined-parts parts (partOf (q .store .cells) (slotAt own i) i number o) (λ m l. piece m l (same? (suc m) number)))
       where
@@ -229,21 +229,21 @@ module _ (n : ℕ) (k : Kind) (K : Key) (P : List ℕ) (parts : List (List ℕ))
         piece m l (same e p) = let z : number - 1 ≡ m = omega arith in rw e (brought ∙ ap (λ (j : ℕ). getD parts j []) z)
         piece m l (other e p) =
             let z : m + 1 ≡ suc m = omega arith in
-            let h : eqb (m + 1) number || elem (m + 1) (q .got) ≡ true =
-            all-at (length parts) (λ j. eqb (j + 1) number || elem (j + 1) (q .got)) (sym (complete-add (length parts) number (q .got)) ∙ full) m l in
-            let h′ : eqb (suc m) number || elem (suc m) (q .got) ≡ true = rw z at h in
+            let h : eqb (m + 1) number || elem (m + 1) (q .arrived) ≡ true =
+            all-at (length parts) (λ j. eqb (j + 1) number || elem (j + 1) (q .arrived)) (sym (complete-add (length parts) number (q .arrived)) ∙ full) m l in
+            let h′ : eqb (suc m) number || elem (suc m) (q .arrived) ≡ true = rw z at h in
             rw e (tr .octets (suc m) (omega arith) (omega (arith, total-bounds K (length parts) (adm .totalFits))) (simp e at h′) ∙ ap (λ (j : ℕ). getD parts j []) (omega arith))
 
-    fine-again : elem number (q .got) ≡ true → complete (length parts) (q .got) ≡ false → Fine (acted n s K (length parts) number o (repeats i))
+    fine-again : elem number (q .arrived) ≡ true → complete (length parts) (q .arrived) ≡ false → Fine (acted n s K (length parts) number o (repeats i))
     fine-again old open′ =
-        let tr′ = track-again n K parts own (q .store .cells) i (q .got) since (w .size) tr in record {
+        let tr′ = track-again n K parts own (q .store .cells) i (q .arrived) since (w .size) tr in record {
           again = λ h. record { answer = ap heldAlready is; bears = subst (Bears n (toFront own i (slotAt own i)) K) is (tr′ .bears); cells = refl; output = refl };
-          waits = λ h m. absurd (clash (elem number (q .got)) old h);
-          wakes = λ h m. absurd (clash (elem number (q .got)) old h);
-          phase = rw (add-old number (q .got) old, first-known (q .got) i (q .slot) not-none, ← is) (during (λ e. not-none e) (λ few. tr′));
+          waits = λ h m. absurd (clash (elem number (q .arrived)) old h);
+          wakes = λ h m. absurd (clash (elem number (q .arrived)) old h);
+          phase = rw (add-old number (q .arrived) old, first-known (q .arrived) i (q .slot) not-none, ← is) (during (λ e. not-none e) (λ few. tr′));
         }
       where
-        not-none : q .got ≡ [] → ⊥
+        not-none : q .arrived ≡ [] → ⊥
         not-none e = clash false (ap (elem number) (sym e) ∙ old) refl
 
     -- the slot is freed, and no other bears the key
@@ -257,25 +257,25 @@ module _ (n : ℕ) (k : Kind) (K : Key) (P : List ℕ) (parts : List (List ℕ))
             was : (j : ℕ) → (j ≡ i → ⊥) → 0 < slotAt (freed own i) j .rank → 0 < slotAt own j .rank
             was j p u = pos-taken (slotAt own j .rank) (sym (closed-taken (slotAt own i .rank) (slotAt own j .rank) (tr .bears .used)) ∙ ap (λ (x : Slot). used x) (sym (freed-there own i j p)) ∙ rw (ne-eqb (slotAt (freed own i) j .rank) 0 (λ z. omega arith)))
 
-    fine-last : elem number (q .got) ≡ false → complete (length parts) (add number (q .got)) ≡ true → Fine (acted n s K (length parts) number o (finishes i))
+    fine-last : elem number (q .arrived) ≡ false → complete (length parts) (add number (q .arrived)) ≡ true → Fine (acted n s K (length parts) number o (finishes i))
     fine-last new full =
         let holds : packetIn (q .store .rec .kind) (ofPages K) (length parts) (joinedOctets (q .store .cells) (slotAt own i) i number o) ≡ some P =
         ap (λ (x : Kind). packetIn x (ofPages K) (length parts) (joinedOctets (q .store .cells) (slotAt own i) i number o)) kind
         ∙ ap (packetIn k (ofPages K) (length parts)) (whole full) ∙ packet-in k K P parts good cut in
         subst (λ (p : Option (List ℕ)). Fine (handOut s (withSlots (q .store .rec) (freed own i)) p)) (sym holds) (record {
-          again = λ h. absurd (clash (elem number (q .got)) h new);
-          waits = λ h m. absurd (clash (complete (length parts) (add number (q .got))) full m);
+          again = λ h. absurd (clash (elem number (q .arrived)) h new);
+          waits = λ h m. absurd (clash (complete (length parts) (add number (q .arrived))) full m);
           wakes = λ h m. record { answer = refl; output = refl; cells = refl; gone = gone };
           phase = done full;
         })
 
   -- the series is there, in the slot of its first answer: every other case is impossible
-  module _ (begun : q .got ≡ [] → ⊥) (since : List Key) (tr : Track n K parts own (q .store .cells) (q .slot) (q .got) since) (unfinished : complete (length parts) (q .got) ≡ false) where
+  module _ (begun : q .arrived ≡ [] → ⊥) (since : List Key) (tr : Track n K parts own (q .store .cells) (q .slot) (q .arrived) since) (unfinished : complete (length parts) (q .arrived) ≡ false) where
     is : (j : ℕ) → Bears n own K j → j ≡ q .slot
     is j b = w .keys j (q .slot) (b .inside) (tr .bears .inside) (b .used) (tr .bears .used) (b .key ∙ sym (tr .bears .key))
 
-    here : (j : ℕ) → Bears n own K j → Track n K parts own (q .store .cells) j (q .got) since
-    here j b = subst (λ (m : ℕ). Track n K parts own (q .store .cells) m (q .got) since) (sym (is j b)) tr
+    here : (j : ℕ) → Bears n own K j → Track n K parts own (q .store .cells) j (q .arrived) since
+    here j b = subst (λ (m : ℕ). Track n K parts own (q .store .cells) m (q .arrived) since) (sym (is j b)) tr
 
     pub fine-known : (st : Step) → Case n s K (length parts) number o st → Fine (acted n s K (length parts) number o st)
     fine-known st (other-total j b t) = absurd (t (here j b .total))
@@ -289,12 +289,12 @@ module _ (n : ℕ) (k : Kind) (K : Key) (P : List ℕ) (parts : List (List ℕ))
         fine-kept j (b .inside) false (slotAt own j) (b .key) t (u .lengths) (u .marks) (t′ .held)
         (λ m a l d. (length-short k (slotAt own j) u m a l, t′ .octets m a l d))
         (sym (t′ .held number (adm .low) high) ∙ h) (sym (told j (is j b) since t′) ∙ e)
-        (λ none-yet. absurd (begun none-yet)) (λ ne. (is j b, refl)) (first-known (q .got) j (q .slot) begun ∙ sym (is j b))
+        (λ none-yet. absurd (begun none-yet)) (λ ne. (is j b, refl)) (first-known (q .arrived) j (q .slot) begun ∙ sym (is j b))
     fine-known st (opens j lacks l z lower) = absurd (lacks (q .slot) (tr .bears .inside) (tr .bears .used) (tr .bears .key))
     fine-known st (displaces j lacks l z all) = absurd (lacks (q .slot) (tr .bears .inside) (tr .bears .used) (tr .bears .key))
 
   -- no slot bears the key yet
-  module _ (none-yet : q .got ≡ []) (lacks : Lacks n own K) where
+  module _ (none-yet : q .arrived ≡ []) (lacks : Lacks n own K) where
     fine-new : (i : ℕ) → i < n → (d : Bool) → NewPlace n own i d → Fine (acted n s K (length parts) number o (keeps i d (opened K (length parts))))
     fine-new i l d place =
         fine-kept i l d (opened K (length parts)) refl refl (length-replicate {A = ℕ} mostParts 0) (length-replicate mostParts false)

@@ -44,6 +44,6 @@ pub record Proper (c : Call) : Type 0 where
   pub output : length (c .output) ≡ mostOctets
   pub octets : Octets (octetsOf (c .input))
 
--- P holds of each call of a list, whatever comes before and behind it
+-- a claim holds of each call of a list, whatever comes before and behind it
 abbrev pub Each : (Call → Type 0) → List Call → Type 0
-Each P calls = (u : List Call) (c : Call) (v : List Call) → calls ≡ u ++ c ∷ v → P c
+Each Claim calls = (u : List Call) (c : Call) (v : List Call) → calls ≡ u ++ c ∷ v → Claim c

@@ -23,13 +23,13 @@ abbrev pub listed : {A : Type 0} → (ℕ → A) → ℕ → List A
 listed f zero = []
 listed f (suc m) = listed f m ++ (f (suc m) ∷ [])
 
--- A call with the key, while parts are missing, brings one of the t inputs that were written, and comes soon enough.
+-- A call with the key, while parts are missing, brings one of the t inputs that were written, with few other keys in between.
 pub record Sent (n t : ℕ) (written : ℕ → Input) (w : Seen) (c : Call) (total number start : ℕ) : Type 0 where
   pub which : ℕ
   pub low : 1 ≤ which
   pub high : which ≤ t
   pub is : c .input ≡ written which
-  pub soon : (w .got ≡ [] → ⊥) → length (w .since) < n
+  pub fewOthers : (w .arrived ≡ [] → ⊥) → length (w .othersSince) < n
 
 -- any calls before, from a fresh record, after which the key is not held
 pub record Sending (n : ℕ) (k : Kind) (K : Key) (P : List ℕ) (cells : List ℕ) (earlier calls : List Call) : Type 0 where
@@ -44,7 +44,7 @@ abbrev pub Arrives : (n : ℕ) (k : Kind) (K : Key) (P : List ℕ) (t : ℕ) (oc
 Arrives n k K P t octets written =
     (cells : List ℕ) (earlier calls : List Call) → Sending n k K P cells earlier calls
     → EachWith n k K t (Sent n t written) (nothingSeen (run n (fresh n k cells) earlier)) calls
-    → complete t (follow n k K (nothingSeen (run n (fresh n k cells) earlier)) calls .got) ≡ true
+    → complete t (follow n k K (nothingSeen (run n (fresh n k cells) earlier)) calls .arrived) ≡ true
     → Comes n k K P (listed octets t) (nothingSeen (run n (fresh n k cells) earlier)) calls
 
 -- user data, for either kind and either width

@@ -52,12 +52,12 @@ slotOf (refused m) = 0
 -- them was answered with; and the other keys that calls answered "kept" or "held already" have borne since the last call with the key.
 pub record Seen : Type 0 where
   pub store : Store
-  pub got : List ℕ
+  pub arrived : List ℕ
   pub slot : ℕ
-  pub since : List Key
+  pub othersSince : List Key
 
 abbrev pub nothingSeen : Store → Seen
-nothingSeen st = record { store = st; got = []; slot = 0; since = [] }
+nothingSeen st = record { store = st; arrived = []; slot = 0; othersSince = [] }
 
 -- the slot of the first answer: this one's where nothing had come before, and else the one that it was
 abbrev pub firstSlot : List ℕ → ℕ → ℕ → ℕ
@@ -74,14 +74,14 @@ module _ (n : ℕ) (k : Kind) (K : Key) where
   -- after a call that bears the key X and brings part `number`; the Boolean says whether X is K
   abbrev pub seenPart : Seen → After → Key → ℕ → Bool → Seen
   seenPart w a X number true =
-      record { store = left a; got = add number (w .got); slot = firstSlot (w .got) (slotOf (a .answer)) (w .slot); since = [] }
+      record { store = left a; arrived = add number (w .arrived); slot = firstSlot (w .arrived) (slotOf (a .answer)) (w .slot); othersSince = [] }
   seenPart w a X number false =
-      record { store = left a; got = w .got; slot = w .slot; since = cond (counts (a .answer)) (addKey X (w .since)) (w .since) }
+      record { store = left a; arrived = w .arrived; slot = w .slot; othersSince = cond (counts (a .answer)) (addKey X (w .othersSince)) (w .othersSince) }
 
   -- Which call bears a key is told by reading its octets, never by its answer.
   abbrev pub seenAfter : Seen → After → reading.Outcome Brought → Seen
-  seenAfter w a (reading.refused m) = record { store = left a; got = w .got; slot = w .slot; since = w .since }
-  seenAfter w a (reading.gives (single start)) = record { store = left a; got = w .got; slot = w .slot; since = w .since }
+  seenAfter w a (reading.refused m) = record { store = left a; arrived = w .arrived; slot = w .slot; othersSince = w .othersSince }
+  seenAfter w a (reading.gives (single start)) = record { store = left a; arrived = w .arrived; slot = w .slot; othersSince = w .othersSince }
   seenAfter w a (reading.gives (part X total number start)) = seenPart w a X number (sameKey X K)
 
   abbrev pub seen : Seen → Call → Seen
@@ -91,11 +91,11 @@ module _ (n : ℕ) (k : Kind) (K : Key) where
   follow w [] = w
   follow w (c ∷ cs) = follow (seen w c) cs
 
-  -- P holds of each call that bears the key while parts are missing, with what was seen before it
+  -- a claim holds of each call that bears the key while parts are missing, with what was seen before it
   abbrev pub EachWith : ℕ → (Seen → Call → (total number start : ℕ) → Type 0) → Seen → List Call → Type 0
-  EachWith t P w calls =
+  EachWith t Claim w calls =
       (u : List Call) (c : Call) (v : List Call) → calls ≡ u ++ c ∷ v → (total number start : ℕ)
-      → read k (c .input) ≡ reading.gives (part K total number start) → complete t (follow w u .got) ≡ false → P (follow w u) c total number start
+      → read k (c .input) ≡ reading.gives (part K total number start) → complete t (follow w u .arrived) ≡ false → Claim (follow w u) c total number start
 
   module _ (P : List ℕ) (parts : List (List ℕ)) where
     -- ---- premise
@@ -104,7 +104,7 @@ module _ (n : ℕ) (k : Kind) (K : Key) where
     pub record Fair (w : Seen) (c : Call) (total number start : ℕ) : Type 0 where
       pub counted : total ≡ length parts
       pub brought : drop start (octetsOf (c .input)) ≡ getD parts (number - 1) []
-      pub soon : (w .got ≡ [] → ⊥) → length (w .since) < n
+      pub fewOthers : (w .arrived ≡ [] → ⊥) → length (w .othersSince) < n
 
     -- ---- conclusion
     -- the number had come before: "held already" with the slot of the first answer, cells and output as they were
@@ -120,8 +120,8 @@ module _ (n : ℕ) (k : Kind) (K : Key) where
       pub slot : ℕ
       pub displaced : Bool
       pub answer : a .answer ≡ kept slot displaced
-      pub first : w .got ≡ [] → NewPlace n (w .store .rec .slots) slot displaced
-      pub later : (w .got ≡ [] → ⊥) → (slot ≡ w .slot) × (displaced ≡ false)
+      pub first : w .arrived ≡ [] → NewPlace n (w .store .rec .slots) slot displaced
+      pub later : (w .arrived ≡ [] → ⊥) → (slot ≡ w .slot) × (displaced ≡ false)
       pub bears : Bears n (a .state .rec .slots) K slot
       pub cells : a .state .cells ≡ placed (w .store .cells) (cellAt slot number) (getD parts (number - 1) [])
       pub output : a .state .output ≡ c .output
@@ -134,9 +134,9 @@ module _ (n : ℕ) (k : Kind) (K : Key) where
       pub gone : Lacks n (a .state .rec .slots) K
 
     pub record Served (w : Seen) (c : Call) (total number start : ℕ) : Type 0 where
-      pub again : elem number (w .got) ≡ true → Repeated w c (outcome n (w .store) c)
-      pub waits : elem number (w .got) ≡ false → complete (length parts) (add number (w .got)) ≡ false → Waits w c number (outcome n (w .store) c)
-      pub wakes : elem number (w .got) ≡ false → complete (length parts) (add number (w .got)) ≡ true → Wakes w c (outcome n (w .store) c)
+      pub again : elem number (w .arrived) ≡ true → Repeated w c (outcome n (w .store) c)
+      pub waits : elem number (w .arrived) ≡ false → complete (length parts) (add number (w .arrived)) ≡ false → Waits w c number (outcome n (w .store) c)
+      pub wakes : elem number (w .arrived) ≡ false → complete (length parts) (add number (w .arrived)) ≡ true → Wakes w c (outcome n (w .store) c)
 
 -- ---- the theorem
 module _ (n : ℕ) (k : Kind) (K : Key) (P : List ℕ) (parts : List (List ℕ)) where
@@ -166,8 +166,8 @@ module _ (n : ℕ) (k : Kind) (K : Key) (P : List ℕ) (parts : List (List ℕ))
     pub number : ℕ
     pub start : ℕ
     pub brings : read k (c .input) ≡ reading.gives (part K (length parts) number start)
-    pub new : elem number (w .got) ≡ false
-    pub all : complete (length parts) (add number (w .got)) ≡ true
+    pub new : elem number (w .arrived) ≡ false
+    pub all : complete (length parts) (add number (w .arrived)) ≡ true
     pub wakes : Wakes n k K P parts w c (outcome n (w .store) c)
 
   -- with all parts among the calls, such a call is there
@@ -182,5 +182,5 @@ module _ (n : ℕ) (k : Kind) (K : Key) (P : List ℕ) (parts : List (List ℕ))
   PacketComes =
       (cells : List ℕ) (earlier calls : List Call) → Start cells earlier calls
       → EachWith n k K (length parts) (Fair n k K P parts) (begin cells earlier) calls
-      → complete (length parts) (follow n k K (begin cells earlier) calls .got) ≡ true
+      → complete (length parts) (follow n k K (begin cells earlier) calls .arrived) ≡ true
       → Comes (begin cells earlier) calls
