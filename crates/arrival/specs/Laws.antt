@@ -4,7 +4,7 @@ use Prim.Native.Nat.{ℕ, _+_, _*_, _≤_}
 use mathlib.Core.Path.{_≡_, refl}
 use mathlib.Core.List.{List}
 use mathlib.Core.Bool.{true, false, not}
-use mathlib.Core.Option.{some}
+use mathlib.Core.Option.{Option, none, some}
 use native.Mathlib.Omega.{arith}
 use lib.ListN.{length, drop, length-drop}
 use lib.Dec.{eqb}
@@ -13,17 +13,28 @@ use Rattle.types.specs.declared.Kind.{Kind}
 use Rattle.types.specs.Refusals.{gives}
 use Rattle.types.specs.declared.Key.{Key}
 use Rattle.header.specs.declared.Concatenation.{Concatenation}
+use Rattle.header.specs.declared.Seen.{Seen}
 use Rattle.arrival.specs.Arrivals.{Brought, single, part}
-use Rattle.arrival.specs.Message.{alone, afterHeader, mostParts, messageKey, readMessage}
+use Rattle.arrival.specs.Message.{alone, afterHeader, mostParts, messageKey, whereRead, readMessage}
 use Rattle.arrival.specs.Page.{pageOctets, pageHeader, pageContent, parameterIn, pageTotal, pageNumber, serialIn, identifierIn, pageKey, readPage}
 use Rattle.arrival.specs.Keys.{ofPages, referenceFits, keyFormed, totalFits, room, lengthFits}
 use Rattle.header.specs.Header.{Item, elements}
+use Rattle.header.specs.Reading.{seenAfter, collected, walked, toldWalked}
 use Rattle.arrival.specs.Bounds.{taken, elements-taken, Octets, Says, HasWidth, bit, cost, by-width, Read, read, not-alone, some-total, room-fills, given-as, parameter-bounds, PageRead, page-given-as}
 
 -- ---- the elements of a header
 -- They fill it exactly: `taken` counts two octets and its own for each.
 pub elements-fill : (h : List ℕ) (es : List Item) → elements h ≡ some es → taken es ≡ length h
 elements-fill = elements-taken
+
+-- The walk refuses a header by the number, and on the elements, by which reading a message refuses it.
+pub walk-refuses : (h : List ℕ) (i : ℕ) (s : Seen)
+    → toldWalked (walked h i s) ≡ whereRead (λ (es : List Item). gives (seenAfter s es)) (elements (drop i h))
+walk-refuses h i s = go (elements (drop i h))
+  where
+    go : (o : Option (List Item)) → toldWalked (collected s o) ≡ whereRead (λ (es : List Item). gives (seenAfter s es)) o
+    go none = refl
+    go (some es) = refl
 
 -- ---- the bounds of what is given: what a well-formed record can hold
 -- A part of `total`, the one with that number, whose own octets are these.
