@@ -1,6 +1,6 @@
 -- What a message or a page brings, in the words of 01.
 use Prim.Native.Nat.{ℕ}
-use Rattle.types.specs.Refusals.{Outcome, refused, gives, numberOf}
+use Rattle.types.specs.Refusals.{Outcome, refused, gives, refusalNumber}
 use Rattle.types.specs.declared.Key.{Key}
 use Rattle.types.specs.declared.Arrival.{Arrival}
 use Rattle.types.specs.declared.Arrival.the-variants.{Single, Part, Refused}
@@ -15,4 +15,4 @@ pub data Brought : Type 0 where
 abbrev pub toldArrival : Arrival → Outcome Brought
 toldArrival (Single s) = gives (single s)
 toldArrival (Part k t n s) = gives (part k t n s)
-toldArrival (Refused r) = refused (numberOf r)
+toldArrival (Refused r) = refused (refusalNumber r)

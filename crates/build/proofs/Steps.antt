@@ -17,7 +17,7 @@ use Rattle.types.specs.declared.Kind.the-variants.{Command, Response}
 use Rattle.types.specs.declared.Refusal.{Refusal}
 use Rattle.build.specs.declared.Ruling.{Ruling}
 use Rattle.build.specs.declared.Ruling.the-variants as ruling
-use Rattle.types.specs.Refusals.{Outcome, refused, gives, refuse_when_otherwise_, numberOf, Lent, lent, writes}
+use Rattle.types.specs.Refusals.{Outcome, refused, gives, refuse_when_otherwise_, refusalNumber, Lent, lent, writes}
 use Rattle.packet.specs.Packets.{before, least, Fields, plain, ciphered, cipherBit, differ, behind, packetFrom, packetOf, isCiphered, againstSpi, misfit, building, built}
 use Rattle.packet.specs.Laws.{before-some, before-least, least-most}
 use Rattle.octets.specs.Tests.{neither}
@@ -147,7 +147,7 @@ module _ (d h f b : List ℕ) (a m l : Bool) (s : l ≡ ltb 2142 (length h + (le
         let q : ltb 2142 (length the-packet) ≡ l = rw (size-is d h f b n (omega arith)) (sym s) in
         rw (ruled-then (length d) a m (ltb 2142 (length the-packet)) (gives the-packet), q, e)
 
-    pub tried-refused : (r : Refusal) → j ≡ ruling.Refused r → lent (refused (numberOf r)) d ≡ tried a m the-packet d
+    pub tried-refused : (r : Refusal) → j ≡ ruling.Refused r → lent (refused (refusalNumber r)) d ≡ tried a m the-packet d
     tried-refused r t = sym (as-ruled ∙ rw t)
 
     pub tried-written : j ≡ ruling.Allowed → (w : Lent) → w ≡ writes (gives the-packet) d → w ≡ tried a m the-packet d

@@ -8,7 +8,7 @@ use Rattle.types.specs.declared.Kind.{Kind}
 use Rattle.types.specs.declared.Kind.the-variants.{Command, Response}
 use Rattle.build.specs.declared.Ruling.{Ruling}
 use Rattle.build.specs.declared.Ruling.the-variants as ruling
-use Rattle.types.specs.Refusals.{Outcome, refused, gives, refuse_when_otherwise_, numberOf, Lent, writes}
+use Rattle.types.specs.Refusals.{Outcome, refused, gives, refuse_when_otherwise_, refusalNumber, Lent, writes}
 use Rattle.packet.specs.Packets.{before, least, cipherBit, differ, mostOctets}
 
 -- 10 of a building, of the first octet behind the lengths
@@ -27,7 +27,7 @@ ruled buffer against misfit over o =
 
 abbrev pub toldRuling : Ruling → Outcome ℕ
 toldRuling ruling.Allowed = gives 0
-toldRuling (ruling.Refused r) = refused (numberOf r)
+toldRuling (ruling.Refused r) = refused (refusalNumber r)
 
 -- what building the packet p comes to, of two of the tests
 abbrev pub tried : Bool → Bool → List ℕ → List ℕ → Lent

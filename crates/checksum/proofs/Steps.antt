@@ -16,7 +16,7 @@ use Rattle.types.specs.declared.Kind.the-variants.{Command, Response}
 use Rattle.types.specs.declared.Refusal.{Refusal}
 use Rattle.packet.specs.declared.read.Judged.{Judged}
 use Rattle.packet.specs.declared.read.Judged.the-variants as judged
-use Rattle.types.specs.Refusals.{refused, gives, numberOf, Lent, lent, writes}
+use Rattle.types.specs.Refusals.{refused, gives, refusalNumber, Lent, lent, writes}
 use Rattle.packet.specs.Packets.{least, chl, readable, fixedOctets, withoutCheck, checksumOctets, checksummed}
 use Rattle.packet.specs.Laws.{Formed}
 use Rattle.packet.specs.Judging.{toldJudged, judged-formed, judged-header, judged-size, judged-readable, judged-refused}
@@ -113,7 +113,7 @@ module _ (k : Kind) (c : Bool) (p d : List ℕ) where
   sum-buffer n = rw (ne-eqb (length d) 2145 n)
 
   module _ (l : length d ≡ 2145) (j : Judged) (e : toldJudged j ≡ readable k p (gives (chl p))) where
-    pub sum-refused : (r : Refusal) → j ≡ judged.Refused r → lent (refused (numberOf r)) d ≡ checksummed k c p d
+    pub sum-refused : (r : Refusal) → j ≡ judged.Refused r → lent (refused (refusalNumber r)) d ≡ checksummed k c p d
     unfolding checksummed checksumOctets
     sum-refused r t = rw (eq-eqb (length d) 2145 l, ← judged-refused k p j e r t)
 

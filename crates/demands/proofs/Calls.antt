@@ -21,7 +21,7 @@ use Rattle.formed.specs.Laws.{Formed, formed-told, fresh-formed}
 use Rattle.series.specs.Cells.{cellsSize}
 use Rattle.series.specs.Taking.{State, After, state, refuse, unfit, taken, takeMessage, takePage}
 use Rattle.series.specs.KeepLaws.{Sound, taken-sound, taken-kind}
-use Rattle.series.specs.Calls.{Input, message, page, octetsOf, read, take}
+use Rattle.series.specs.Calls.{Input, message, page, octetsOf, read, takeInput}
 use Rattle.demands.specs.Always.{BringsOctets, AlwaysFormed, NoKeyTwice}
 use Rattle.demands.specs.Runs.{Call, Store, fresh, outcome, left, run, Octets, Proper, Each}
 
@@ -30,7 +30,7 @@ isPage (message sender ud) = false
 isPage (page o) = true
 
 -- ---- any call is refused 1, or is what its reading says
-pub taking-any : (n : ℕ) (s : State) (i : Input) → take n s i ≡ cond (unfit n s) (refuse 1 s) (taken n s (isPage i) (octetsOf i) (read (s .rec .kind) i))
+pub taking-any : (n : ℕ) (s : State) (i : Input) → takeInput n s i ≡ cond (unfit n s) (refuse 1 s) (taken n s (isPage i) (octetsOf i) (read (s .rec .kind) i))
 unfolding takeMessage takePage
 taking-any n s (message sender ud) = refl
 taking-any n s (page o) = refl
@@ -40,7 +40,7 @@ module _ (n : ℕ) (s : State) (w : Sound n (s .rec) (s .cells)) (size : length 
   fit : unfit n s ≡ false
   fit = rw (eq-eqb (length (s .cells)) (cellsSize n) (w .size), eq-eqb (length (s .output)) mostOctets size, formed-told n (s .rec .kind) (s .rec .slots) (w .formed))
 
-  pub taking : (i : Input) → take n s i ≡ taken n s (isPage i) (octetsOf i) (read (s .rec .kind) i)
+  pub taking : (i : Input) → takeInput n s i ≡ taken n s (isPage i) (octetsOf i) (read (s .rec .kind) i)
   taking i = taking-any n s i ∙ rw fit
 
 -- ---- a fresh record holds no series

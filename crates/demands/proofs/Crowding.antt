@@ -23,9 +23,9 @@ use Rattle.slots.specs.RankLaws.{aged-taken, closed-taken}
 use Rattle.slots.specs.FrontLaws.{front-here, front-there, freed-here, freed-there}
 use Rattle.formed.specs.Laws.{Formed, fresh-formed}
 use Rattle.series.specs.Cells.{joinedOctets}
-use Rattle.series.specs.Taking.{State, After, Answer, state, kept, heldAlready, packet, refused, Step, acted, handOut, step, takePart, taken, unfit, refuse}
+use Rattle.series.specs.Taking.{State, After, Answer, state, kept, heldAlready, packet, refusedBy, Step, acted, handOut, step, takePart, taken, unfit, refuse}
 use Rattle.series.specs.CaseLaws.{Bears, Lacks, Case, other-total, other-octets, again, last, more, opens, displaces, case-of}
-use Rattle.series.specs.Calls.{Input, octetsOf, read, take}
+use Rattle.series.specs.Calls.{Input, octetsOf, read, takeInput}
 use Rattle.demands.specs.Lists.{elemKey, addKey, dropKey}
 use Rattle.demands.specs.Runs.{Call, Store, fresh, outcome, left, run, Each}
 use Rattle.demands.specs.Always.{BringsOctets}
@@ -86,7 +86,7 @@ module _ (n : ℕ) (pos : 0 < n) (k : Kind) where
   marked (kept i d) = d
   marked (heldAlready i) = false
   marked (packet m) = false
-  marked (refused m) = false
+  marked (refusedBy m) = false
 
   unmarked : {A : Type 0} (a : Answer) → marked a ≡ false → (slot : ℕ) → a ≡ kept slot true → A
   unmarked a none-there slot e = absurd (clash (marked a) (ap marked e) none-there)
@@ -99,7 +99,7 @@ module _ (n : ℕ) (pos : 0 < n) (k : Kind) where
     w′ = subst (λ (x : Kind). Formed n x xs) kind w
 
     handed : (o : Option (List ℕ)) → Fine l (handOut s (s .rec) o)
-    handed none = (held, unmarked (refused 9) refl)
+    handed none = (held, unmarked (refusedBy 9) refl)
     handed (some p) = (held, unmarked (packet (length p)) refl)
 
     module _ (X : Key) (total number : ℕ) (o : List ℕ) where
@@ -107,7 +107,7 @@ module _ (n : ℕ) (pos : 0 < n) (k : Kind) where
       Left a = Fine (unfinishedAfter X (a .answer) l) a
 
       finished : (j : ℕ) → Bears n xs X j → (p : Option (List ℕ)) → Left (handOut s (withSlots (s .rec) (freed xs j)) p)
-      finished j b none = (ended xs w′ l held X j b, unmarked (refused 9) refl)
+      finished j b none = (ended xs w′ l held X j b, unmarked (refusedBy 9) refl)
       finished j b (some p) = (ended xs w′ l held X j b, unmarked (packet (length p)) refl)
 
       -- slot j comes to the front with X
@@ -115,8 +115,8 @@ module _ (n : ℕ) (pos : 0 < n) (k : Kind) where
       comes j inside y e = fronted xs w′ l held j inside y (addKey X l) (λ Y. elem-key-add X Y l) (rw e (elem-key-self X l))
 
       by-case : (st : Step) → Case n s X total number o st → Left (acted n s X total number o st)
-      by-case st (other-total j b t) = (held, unmarked (refused 7) refl)
-      by-case st (other-octets j b t h c) = (held, unmarked (refused 8) refl)
+      by-case st (other-total j b t) = (held, unmarked (refusedBy 7) refl)
+      by-case st (other-octets j b t h c) = (held, unmarked (refusedBy 8) refl)
       by-case st (again j b t h c) =
           (fronted xs w′ l held j (b .inside) (slotAt xs j) l (λ Y h. h) (held j (b .inside) (b .used)), unmarked (heldAlready j) refl)
       by-case st (last j b t h c) = finished j b (packetIn (s .rec .kind) (ofPages X) total (joinedOctets (s .cells) (slotAt xs j) j number o))
@@ -128,15 +128,15 @@ module _ (n : ℕ) (pos : 0 < n) (k : Kind) where
 
     by-reading : (paged : Bool) (o : List ℕ) (r : reading.Outcome Brought) → Fine (unfinishedWith r (taken n s paged o r .answer) l) (taken n s paged o r)
     unfolding takePart
-    by-reading paged o (reading.refused m) = (held, unmarked (refused m) refl)
+    by-reading paged o (reading.refused m) = (held, unmarked (refusedBy m) refl)
     by-reading paged o (reading.gives (single start)) = handed (packetIn (s .rec .kind) paged 1 (drop start o))
     by-reading paged o (reading.gives (part X total number start)) =
         by-case X total number (drop start o) (step n s X total number (drop start o)) (case-of n s X total number (drop start o) pos w)
 
     unfit-call : (r : reading.Outcome Brought) → Fine (unfinishedWith r (refuse 1 s .answer) l) (refuse 1 s)
-    unfit-call (reading.refused m) = (held, unmarked (refused 1) refl)
-    unfit-call (reading.gives (single start)) = (held, unmarked (refused 1) refl)
-    unfit-call (reading.gives (part X total number start)) = (held, unmarked (refused 1) refl)
+    unfit-call (reading.refused m) = (held, unmarked (refusedBy 1) refl)
+    unfit-call (reading.gives (single start)) = (held, unmarked (refusedBy 1) refl)
+    unfit-call (reading.gives (part X total number start)) = (held, unmarked (refusedBy 1) refl)
 
     abbrev fitting : Input → Bool → After
     fitting i b = cond b (refuse 1 s) (taken n s (isPage i) (octetsOf i) (read (s .rec .kind) i))
@@ -145,9 +145,9 @@ module _ (n : ℕ) (pos : 0 < n) (k : Kind) where
     by-fit i true = unfit-call (read (s .rec .kind) i)
     by-fit i false = by-reading (isPage i) (octetsOf i) (read (s .rec .kind) i)
 
-    any-call : (i : Input) → Fine (unfinishedWith (read k i) (take n s i .answer) l) (take n s i)
+    any-call : (i : Input) → Fine (unfinishedWith (read k i) (takeInput n s i .answer) l) (takeInput n s i)
     any-call i =
-        subst (λ (x : Kind). Fine (unfinishedWith (read x i) (take n s i .answer) l) (take n s i)) kind
+        subst (λ (x : Kind). Fine (unfinishedWith (read x i) (takeInput n s i .answer) l) (takeInput n s i)) kind
         (subst (λ (a : After). Fine (unfinishedWith (read (s .rec .kind) i) (a .answer) l) a) (sym (taking-any n s i)) (by-fit i (unfit n s)))
 
   one-call : (st : Store) → Formed′ n pos k (admits k) st → (l : List Key) → Held (st .rec .slots) l → (c : Call)

@@ -27,7 +27,7 @@ use Rattle.series.specs.Taking.{step, takePart, takeMessage, packet}
 use Rattle.demands.specs.Examples.{M}
 use Rattle.series.specs.Calls.{Input}
 use Rattle.demands.specs.Runs.{Call, fresh, outcome, run, Octets, Proper}
-use Rattle.demands.specs.Wake.{messages, Seen, seen, Fair, begin}
+use Rattle.demands.specs.Wake.{messages, History, historyWith, Fair, begin}
 use Rattle.demands.proofs.Calls.{fresh-free}
 use Rattle.demands.proofs.Along.{All, each, Here, each-with}
 use Rattle.demands.specs.Reached.{key, halves, call, first, second, other, cells, two, Met, Missed, longest, longestPaged, asMessage, asPage, inOrder, Longest}
@@ -49,19 +49,19 @@ same-part e = (cc, cc, cc, cc)
 
 module _ (b : ℕ) where
   -- what is seen before each call
-  abbrev w₀ : Seen
+  abbrev w₀ : History
   w₀ = begin slotCount Command key M halves (cells b) []
 
-  abbrev w₁ : Seen
-  w₁ = seen slotCount Command key w₀ (first b)
+  abbrev w₁ : History
+  w₁ = historyWith slotCount Command key w₀ (first b)
 
-  abbrev w₂ : Seen
-  w₂ = seen slotCount Command key w₁ (other b 2)
+  abbrev w₂ : History
+  w₂ = historyWith slotCount Command key w₁ (other b 2)
 
-  abbrev w₃ : Seen
-  w₃ = seen slotCount Command key w₂ (other b 3)
+  abbrev w₃ : History
+  w₃ = historyWith slotCount Command key w₂ (other b 3)
 
-  abbrev Fair′ : Seen → Call → Type 0
+  abbrev Fair′ : History → Call → Type 0
   Fair′ = Here slotCount Command key 2 (Fair slotCount Command key M halves)
 
   fair-first : Fair′ w₀ (first b)
@@ -69,7 +69,7 @@ module _ (b : ℕ) where
   fair-first total number start e o =
       let (k, t, m, s) = same-part e in record { counted = sym t; brought = rw (← m, ← s); fewOthers = λ ne. absurd (ne refl) }
 
-  fair-other : (w : Seen) (sender : ℕ) → (sender ≡ 1 → ⊥) → Fair′ w (other b sender)
+  fair-other : (w : History) (sender : ℕ) → (sender ≡ 1 → ⊥) → Fair′ w (other b sender)
   unfolding elementsAfter summary judged readMessage
   fair-other w sender ne total number start e o = absurd (ne (ap (λ (k : Key). k .sender) (same-part e .0)))
 

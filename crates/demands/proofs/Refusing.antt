@@ -22,9 +22,9 @@ use Rattle.slots.specs.Slots.{slotAt, freed, withSlots}
 use Rattle.formed.specs.Formed.{recordFormed}
 use Rattle.formed.specs.Laws.{Formed, formed-tells}
 use Rattle.series.specs.Cells.{cellsSize, joinedOctets}
-use Rattle.series.specs.Taking.{State, After, kept, heldAlready, packet, refused, Step, handOut, acted, step, takePart, taken, unfit, refuse}
+use Rattle.series.specs.Taking.{State, After, kept, heldAlready, packet, refusedBy, Step, handOut, acted, step, takePart, taken, unfit, refuse}
 use Rattle.series.specs.CaseLaws.{Case, other-total, other-octets, again, last, more, opens, displaces, case-of}
-use Rattle.series.specs.Calls.{Input, octetsOf, read, take}
+use Rattle.series.specs.Calls.{Input, octetsOf, read, takeInput}
 use Rattle.split.specs.Splitting as split
 use Rattle.demands.specs.Refusing.{Leaves, unaltered, dropped, TakingRefused, BuildingRefused, ChecksumRefused, WritingRefused, PageRefused, ParsingRefused, UnfitRefused}
 use Rattle.demands.proofs.Calls.{isPage, taking-any}
@@ -33,19 +33,19 @@ use Rattle.demands.proofs.Calls.{isPage, taking-any}
 module _ (n : ℕ) (pos : 0 < n) (s : State) (i : Input) (number : ℕ) where
   -- an outcome that is refused leaves what it may
   abbrev Left : After → Type 0
-  Left a = a .answer ≡ refused number → Leaves n s i number (a .state)
+  Left a = a .answer ≡ refusedBy number → Leaves n s i number (a .state)
 
-  not-kept : {j : ℕ} {d : Bool} {A : Type 0} → kept j d ≡ refused number → A
+  not-kept : {j : ℕ} {d : Bool} {A : Type 0} → kept j d ≡ refusedBy number → A
   not-kept e = let z : _≡_ {A = ℕ} 0 1 = cc in absurd (omega arith)
 
-  not-held : {j : ℕ} {A : Type 0} → heldAlready j ≡ refused number → A
+  not-held : {j : ℕ} {A : Type 0} → heldAlready j ≡ refusedBy number → A
   not-held e = let z : _≡_ {A = ℕ} 0 1 = cc in absurd (omega arith)
 
-  not-handed : {j : ℕ} {A : Type 0} → packet j ≡ refused number → A
+  not-handed : {j : ℕ} {A : Type 0} → packet j ≡ refusedBy number → A
   not-handed e = let z : _≡_ {A = ℕ} 0 1 = cc in absurd (omega arith)
 
   -- refused by another number, or not read as a part: no series is completed
-  by-number : {m : ℕ} → (m ≡ 9 → ⊥) → refused m ≡ refused number → Leaves n s i number s
+  by-number : {m : ℕ} → (m ≡ 9 → ⊥) → refusedBy m ≡ refusedBy number → Leaves n s i number s
   by-number ne e = unaltered (λ nine slot c. ne (cc))
 
   not-part : {r : outcome.Outcome Brought} → read (s .rec .kind) i ≡ r → ((key : Key) (total which start : ℕ) → r ≡ outcome.gives (part key total which start) → ⊥) → Leaves n s i number s
@@ -78,7 +78,7 @@ module _ (n : ℕ) (pos : 0 < n) (s : State) (i : Input) (number : ℕ) where
   read-left w (outcome.gives (part key total which start)) r e =
       part-left key total which start r (step n s key total which (drop start (octetsOf i))) (case-of n s key total which (drop start (octetsOf i)) pos w) e
 
-  call-left : Left (take n s i)
+  call-left : Left (takeInput n s i)
   call-left = subst Left (sym (taking-any n s i)) (go (unfit n s) refl)
     where
       go : (b : Bool) → unfit n s ≡ b → Left (cond b ((refuse) 1 s) (taken n s (isPage i) (octetsOf i) (read (s .rec .kind) i)))
@@ -106,7 +106,7 @@ pub checksum-refused : ChecksumRefused
 unfolding checksummed
 checksum-refused k c p buffer = into-left mostChecksum (checksumOctets k c p) buffer
 
-piece-left : (o : outcome.Outcome split.Piece) (buffer : List ℕ) (number : ℕ) → split.writes o buffer .answer ≡ outcome.refused number → split.writes o buffer .buffer ≡ buffer
+piece-left : (o : outcome.Outcome split.Piece) (buffer : List ℕ) (number : ℕ) → split.writesPart o buffer .answer ≡ outcome.refused number → split.writesPart o buffer .buffer ≡ buffer
 piece-left (outcome.refused m) buffer number e = refl
 piece-left (outcome.gives x) buffer number e = let z : _≡_ {A = ℕ} 0 1 = cc in absurd (omega arith)
 
@@ -137,7 +137,7 @@ parsing-refused k c p number e = record {
     none y = nothing number (measured (fieldsOf k c p)) y (not (wellFormed k p)) (ltb mostOctets (length p)) e
 
 -- ---- bad buffers and records
-unfit-taken : (n : ℕ) (s : State) (i : Input) → unfit n s ≡ true → take n s i ≡ (refuse) 1 s
+unfit-taken : (n : ℕ) (s : State) (i : Input) → unfit n s ≡ true → takeInput n s i ≡ (refuse) 1 s
 unfit-taken n s i e = taking-any n s i ∙ rw e
 
 unfit-into : (size : ℕ) (o : outcome.Outcome (List ℕ)) (buffer : List ℕ) → (length buffer ≡ size → ⊥) → into size o buffer ≡ outcome.lent (outcome.refused 1) buffer

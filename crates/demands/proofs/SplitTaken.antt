@@ -25,7 +25,7 @@ use Rattle.split.specs.Laws.{single-size, part-whole, parts-join, pages-join, p
 use Rattle.split.specs.ReadBack.{ownFrom, read-single, single-octets, read-part, own-octets, read-single-page, read-page, content-octets}
 use Rattle.demands.specs.Lists.{concat}
 use Rattle.demands.specs.Runs.{Call, fresh, run}
-use Rattle.demands.specs.Wake.{Cut, messages, pages, complete, Seen, nothingSeen, follow, EachWith, Fair, Served, Start, Comes}
+use Rattle.demands.specs.Wake.{Cut, messages, pages, complete, History, historyFrom, follow, EachWith, Fair, Served, Start, Comes}
 use Rattle.demands.specs.SplitTaken.{listed, Sent, Sending, Arrives, keyOf, MessagesArrive, PagesArrive}
 use Rattle.demands.proofs.Lists.{concat-last}
 use Rattle.demands.proofs.Calls.{isPage}
@@ -64,7 +64,7 @@ pub record Splits (k : Kind) (K : Key) (P : List ℕ) (t : ℕ) (octets : ℕ �
 
 module _ (n : ℕ) (pos : 0 < n) (k : Kind) (K : Key) (P : List ℕ) (t : ℕ) (octets : ℕ → List ℕ) (written : ℕ → Input)
     (splits : Splits k K P t octets written) (two : 2 ≤ t) where
-  sent-fair : (w : Seen) (c : Call) (total number start : ℕ) → read k (c .input) ≡ reading.gives (part K total number start) → Sent n t written w c total number start
+  sent-fair : (w : History) (c : Call) (total number start : ℕ) → read k (c .input) ≡ reading.gives (part K total number start) → Sent n t written w c total number start
       → Fair n k K P (listed octets t) w c total number start
   sent-fair w c total number start e s =
       let from = splits .from in
@@ -83,8 +83,8 @@ module _ (n : ℕ) (pos : 0 < n) (k : Kind) (K : Key) (P : List ℕ) (t : ℕ) (
       }
 
   module _ (cells : List ℕ) (earlier calls : List Call) (s : Sending n k K P cells earlier calls) where
-    abbrev w : Seen
-    w = nothingSeen (run n (fresh n k cells) earlier)
+    abbrev w : History
+    w = historyFrom (run n (fresh n k cells) earlier)
 
     starts : Start n k K P (listed octets t) cells earlier calls
     starts = record {

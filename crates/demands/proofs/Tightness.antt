@@ -23,7 +23,7 @@ use Rattle.types.specs.declared.ParsedResponse.{ParsedResponse}
 use Rattle.types.specs.declared.ParsedResponse.the-variants as parsedResponse
 use Rattle.types.specs.declared.Written.{Written}
 use Rattle.types.specs.declared.Written.the-variants as written
-use Rattle.types.specs.Refusals.{Outcome, refused, gives, Lent, numberOf}
+use Rattle.types.specs.Refusals.{Outcome, refused, gives, Lent, refusalNumber}
 use Rattle.packet.specs.Packets.{Parsed, plainParsed, cipheredParsed, formedBy, wellFormed, cipheredCommand, shownData, shownCheck, shownOpaque}
 use Rattle.packet.specs.declared.read.Judged.{Judged}
 use Rattle.packet.specs.declared.read.Judged.the-variants as judged
@@ -63,7 +63,7 @@ refusalOf n =
     (BufferOrRecord ∷ Size ∷ Header ∷ Element ∷ Identifier ∷ Total ∷ OtherTotal ∷ OtherOctets ∷ NotWellFormed ∷ Cipher ∷ HeaderLength ∷ PacketLength ∷ Reference ∷ Number ∷ [])
     (n - 1) BufferOrRecord
 
-refusal-back : (r : Refusal) → refusalOf (numberOf r) ≡ r
+refusal-back : (r : Refusal) → refusalOf (refusalNumber r) ≡ r
 unfolding refusalOf
 refusal-back BufferOrRecord = refl
 refusal-back Size = refl
@@ -161,7 +161,7 @@ answerOf : taking.Answer → Answer
 answerOf (taking.kept s d) = answer.Kept s d
 answerOf (taking.heldAlready s) = answer.HeldAlready s
 answerOf (taking.packet m) = answer.Packet m
-answerOf (taking.refused n) = answer.Refused (refusalOf n)
+answerOf (taking.refusedBy n) = answer.Refused (refusalOf n)
 
 answer-back : (r : Answer) → answerOf (taking.toldAnswer r) ≡ r
 unfolding answerOf
@@ -224,7 +224,7 @@ found-back found.Nothing = refl
 -- ---- the forms of outcomes
 pub tellings : Tellings
 tellings = record {
-  refusal-number = tight numberOf refusalOf refusal-back;
+  refusal-number = tight refusalNumber refusalOf refusal-back;
   parse-command = tight toldCommand commandOf command-back;
   parse-response = tight toldResponse responseOf response-back;
   build-and-checksum = tight toldBuilt writtenOf written-back;
@@ -248,7 +248,7 @@ plain {O} rule = plain-promises O rule
 
 pub promises : Promises
 promises = record {
-  refusal-number = λ x. plain (numberOf x);
+  refusal-number = λ x. plain (refusalNumber x);
   number-of = λ high low. plain (octets.numberOf high low);
   pair-of = λ n. plain (octets.pairOf n);
   put = λ src dst at r₁ r₂ e₁ e₂. put-one (e₁ .0 ∙ sym (e₂ .0)) (e₁ .1 ∙ sym (e₂ .1));

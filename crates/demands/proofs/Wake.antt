@@ -24,7 +24,7 @@ use Rattle.formed.specs.Laws.{Formed}
 use Rattle.types.specs.declared.Record.{Record}
 use Rattle.demands.specs.Lists.{elem, add}
 use Rattle.demands.specs.Runs.{Call, outcome, left, Octets, Proper, Each}
-use Rattle.demands.specs.Wake.{Cut, complete, Seen, seenPart, seenAfter, seen, follow, EachWith, Fair, Wakes, Served, begin, WakeWindow, Last, Comes, PacketComes}
+use Rattle.demands.specs.Wake.{Cut, complete, History, historyPart, historyAfter, historyWith, follow, EachWith, Fair, Wakes, Served, begin, WakeWindow, Last, Comes, PacketComes}
 use Rattle.demands.proofs.Lists.{elem-still, add-old}
 use Rattle.demands.proofs.Calls.{isPage, taking, Kept, Admits, kept-proper, kept-fresh}
 use Rattle.demands.proofs.Window.{Phase, before, during, done, other-part, Serves, fine-known, fine-first}
@@ -42,11 +42,11 @@ complete-more : (t m : ℕ) (got : List ℕ) → complete t got ≡ true → com
 complete-more t m got e = all-hold t (λ i. elem (i + 1) (add m got)) (λ i l. elem-still m (i + 1) got (all-at t (λ i. elem (i + 1) got) e i l))
 
 module _ (n : ℕ) (pos : 0 < n) (k : Kind) (K : Key) (P : List ℕ) (parts : List (List ℕ)) (good : wellFormed k P ≡ true) (cut : Cut K P parts) (two : 2 ≤ length parts) where
-  abbrev PhaseOf : Seen → Type 0
+  abbrev PhaseOf : History → Type 0
   PhaseOf w = Phase n K parts (w .store .rec .slots) (w .store .cells) (w .arrived) (w .slot) (w .othersSince)
 
   -- ---- one call
-  module _ (q : Seen) (w : Kept n k (q .store)) (c : Call) (p : Proper c) where
+  module _ (q : History) (w : Kept n k (q .store)) (c : Call) (p : Proper c) where
     abbrev s : State
     s = state (q .store .rec) (q .store .cells) (c .output)
 
@@ -64,7 +64,7 @@ module _ (n : ℕ) (pos : 0 < n) (k : Kind) (K : Key) (P : List ℕ) (parts : Li
     abbrev Given : reading.Outcome Brought → After → Type 0
     Given r a =
         ((total number start : ℕ) → r ≡ reading.gives (part K total number start) → complete (length parts) (q .arrived) ≡ false → Serves n k K P parts q c number a)
-        × PhaseOf (seenAfter n k K q a r)
+        × PhaseOf (historyAfter n k K q a r)
 
     module _ (ph : PhaseOf q) (fair : Asked) where
       formed-here : Formed n k (q .store .rec .slots)
@@ -100,15 +100,15 @@ module _ (n : ℕ) (pos : 0 < n) (k : Kind) (K : Key) (P : List ℕ) (parts : Li
       handed r (some x) h = h
 
       by-key : (X : Key) (total number start : ℕ) → read k (c .input) ≡ reading.gives (part X total number start) → (b : Bool) → sameKey X K ≡ b
-          → PhaseOf (seenPart n k K q (takePart n s X total number (drop start o)) X number b)
+          → PhaseOf (historyPart n k K q (takePart n s X total number (drop start o)) X number b)
       unfolding takePart
       by-key X total number start e true same = go (complete (length parts) (q .arrived)) refl
         where
-          go : (b : Bool) → complete (length parts) (q .arrived) ≡ b → PhaseOf (seenPart n k K q (takePart n s X total number (drop start o)) X number true)
+          go : (b : Bool) → complete (length parts) (q .arrived) ≡ b → PhaseOf (historyPart n k K q (takePart n s X total number (drop start o)) X number true)
           go true d = done (complete-more (length parts) number (q .arrived) d)
           go false d =
               let x : X ≡ K = same-key X K same in
-              subst (λ (Y : Key). PhaseOf (seenPart n k K q (takePart n s Y total number (drop start o)) Y number true)) (sym x)
+              subst (λ (Y : Key). PhaseOf (historyPart n k K q (takePart n s Y total number (drop start o)) Y number true)) (sym x)
               (own-part total number start (e ∙ ap (λ (Y : Key). reading.gives (part Y total number start)) x) d .phase)
       by-key X total number start e false same =
           other-part n K parts k s formed-here (w .sound .size) X (λ x. clash (sameKey X K) (key-same X K x) same) total number (drop start o)
@@ -117,7 +117,7 @@ module _ (n : ℕ) (pos : 0 < n) (k : Kind) (K : Key) (P : List ℕ) (parts : Li
       given : (r : reading.Outcome Brought) → read k (c .input) ≡ r → Given r (taken n s (isPage (c .input)) o r)
       given r e = (λ t m st eq u. subst (λ (r : reading.Outcome Brought). Serves n k K P parts q c m (taken n s (isPage (c .input)) o r)) (sym eq) (own-part t m st (e ∙ eq) u), phase r e)
         where
-          phase : (r : reading.Outcome Brought) → read k (c .input) ≡ r → PhaseOf (seenAfter n k K q (taken n s (isPage (c .input)) o r) r)
+          phase : (r : reading.Outcome Brought) → read k (c .input) ≡ r → PhaseOf (historyAfter n k K q (taken n s (isPage (c .input)) o r) r)
           phase (reading.refused m) e = ph
           phase (reading.gives (single start)) e = handed (q .store .rec) (packetIn (q .store .rec .kind) (isPage (c .input)) 1 (drop start o)) ph
           phase (reading.gives (part X total number start)) e = by-key X total number start e (sameKey X K) refl
@@ -126,49 +126,49 @@ module _ (n : ℕ) (pos : 0 < n) (k : Kind) (K : Key) (P : List ℕ) (parts : Li
       one-call = subst (Given (read k (c .input))) (sym comes-to) (given (read k (c .input)) refl)
 
   -- ---- any list of calls
-  sound-next : (q : Seen) → Kept n k (q .store) → (c : Call) → Proper c → Kept n k (seen n k K q c .store)
+  sound-next : (q : History) → Kept n k (q .store) → (c : Call) → Proper c → Kept n k (historyWith n k K q c .store)
   sound-next q w c p = go (read k (c .input))
     where
       next : Kept n k (left (outcome n (q .store) c))
       next = kept-proper n pos k (admits k) (q .store) w c p
 
-      by-key : (X : Key) (number : ℕ) (b : Bool) → Kept n k (seenPart n k K q (outcome n (q .store) c) X number b .store)
+      by-key : (X : Key) (number : ℕ) (b : Bool) → Kept n k (historyPart n k K q (outcome n (q .store) c) X number b .store)
       by-key X number true = next
       by-key X number false = next
 
-      go : (r : reading.Outcome Brought) → Kept n k (seenAfter n k K q (outcome n (q .store) c) r .store)
+      go : (r : reading.Outcome Brought) → Kept n k (historyAfter n k K q (outcome n (q .store) c) r .store)
       go (reading.refused m) = next
       go (reading.gives (single start)) = next
       go (reading.gives (part X total number start)) = by-key X number (sameKey X K)
 
-  abbrev All : Seen → List Call → Type 0
+  abbrev All : History → List Call → Type 0
   All q calls = EachWith n k K (length parts) (Fair n k K P parts) q calls
 
-  rest : (q : Seen) (c : Call) (cs : List Call) → All q (c ∷ cs) → All (seen n k K q c) cs
+  rest : (q : History) (c : Call) (cs : List Call) → All q (c ∷ cs) → All (historyWith n k K q c) cs
   rest q c cs f u d v e = f (c ∷ u) d v (ap (λ (l : List Call). c ∷ l) e)
 
   proper-rest : (c : Call) (cs : List Call) → Each Proper (c ∷ cs) → Each Proper cs
   proper-rest c cs all u d v e = all (c ∷ u) d v (ap (λ (l : List Call). c ∷ l) e)
 
-  at-cut : (u : List Call) (q : Seen) → Kept n k (q .store) → PhaseOf q → (c : Call) (v : List Call) → Each Proper (u ++ c ∷ v) → All q (u ++ c ∷ v)
+  at-cut : (u : List Call) (q : History) → Kept n k (q .store) → PhaseOf q → (c : Call) (v : List Call) → Each Proper (u ++ c ∷ v) → All q (u ++ c ∷ v)
       → (total number start : ℕ) → read k (c .input) ≡ reading.gives (part K total number start) → complete (length parts) (follow n k K q u .arrived) ≡ false
       → Serves n k K P parts (follow n k K q u) c number (outcome n (follow n k K q u .store) c)
   at-cut [] q w ph c v ps f = one-call q w c (ps [] c v refl) ph (f [] c v refl) .0
   at-cut (d ∷ u) q w ph c v ps f =
-      at-cut u (seen n k K q d) (sound-next q w d (ps [] d (u ++ c ∷ v) refl)) (one-call q w d (ps [] d (u ++ c ∷ v) refl) ph (f [] d (u ++ c ∷ v) refl) .1) c v
+      at-cut u (historyWith n k K q d) (sound-next q w d (ps [] d (u ++ c ∷ v) refl)) (one-call q w d (ps [] d (u ++ c ∷ v) refl) ph (f [] d (u ++ c ∷ v) refl) .1) c v
       (proper-rest d (u ++ c ∷ v) ps) (rest q d (u ++ c ∷ v) f)
 
-  served : (q : Seen) → Kept n k (q .store) → PhaseOf q → (calls : List Call) → Each Proper calls → All q calls → EachWith n k K (length parts) (Served n k K P parts) q calls
+  served : (q : History) → Kept n k (q .store) → PhaseOf q → (calls : List Call) → Each Proper calls → All q calls → EachWith n k K (length parts) (Served n k K P parts) q calls
   served q w ph calls ps f u c v e total number start r open′ =
       let a = at-cut u q w ph c v (subst (Each Proper) e ps) (subst (All q) e f) total number start r open′ in
       record { again = a .again; waits = a .waits; wakes = a .wakes }
 
   -- ---- the call that brings the last missing part
   -- a call after which no part is missing, where one was before it, brings the last of them
-  last-call : (q : Seen) (c : Call) (a : After) (r : reading.Outcome Brought) → read k (c .input) ≡ r → outcome n (q .store) c ≡ a
+  last-call : (q : History) (c : Call) (a : After) (r : reading.Outcome Brought) → read k (c .input) ≡ r → outcome n (q .store) c ≡ a
       → ((total number start : ℕ) → r ≡ reading.gives (part K total number start) → complete (length parts) (q .arrived) ≡ false → Fair n k K P parts q c total number start)
       → ((total number start : ℕ) → r ≡ reading.gives (part K total number start) → complete (length parts) (q .arrived) ≡ false → Serves n k K P parts q c number a)
-      → complete (length parts) (q .arrived) ≡ false → complete (length parts) (seenAfter n k K q a r .arrived) ≡ true → Last n k K P parts q c
+      → complete (length parts) (q .arrived) ≡ false → complete (length parts) (historyAfter n k K q a r .arrived) ≡ true → Last n k K P parts q c
   last-call q c a (reading.refused m) b i f s o g = absurd (clash (complete (length parts) (q .arrived)) g o)
   last-call q c a (reading.gives (single start)) b i f s o g = absurd (clash (complete (length parts) (q .arrived)) g o)
   last-call q c a (reading.gives (part X total number start)) b i f s o g = go (sameKey X K) refl g
@@ -177,7 +177,7 @@ module _ (n : ℕ) (pos : 0 < n) (k : Kind) (K : Key) (P : List ℕ) (parts : Li
       not-before g true e = absurd (clash (complete (length parts) (q .arrived)) (rw (add-old number (q .arrived) e) at g) o)
       not-before g false e = refl
 
-      go : (b : Bool) → sameKey X K ≡ b → complete (length parts) (seenPart n k K q a X number b .arrived) ≡ true → Last n k K P parts q c
+      go : (b : Bool) → sameKey X K ≡ b → complete (length parts) (historyPart n k K q a X number b .arrived) ≡ true → Last n k K P parts q c
       go true e g =
           let x : reading.gives (part X total number start) ≡ reading.gives (part K total number start) = ap (λ (Y : Key). reading.gives (part Y total number start)) (same-key X K e) in
           let new = not-before g (elem number (q .arrived)) refl in
@@ -191,18 +191,18 @@ module _ (n : ℕ) (pos : 0 < n) (k : Kind) (K : Key) (P : List ℕ) (parts : Li
           }
       go false e g = absurd (clash (complete (length parts) (q .arrived)) g o)
 
-  handed-out : (calls : List Call) (q : Seen) → Kept n k (q .store) → PhaseOf q → Each Proper calls → All q calls → complete (length parts) (q .arrived) ≡ false
+  handed-out : (calls : List Call) (q : History) → Kept n k (q .store) → PhaseOf q → Each Proper calls → All q calls → complete (length parts) (q .arrived) ≡ false
       → complete (length parts) (follow n k K q calls .arrived) ≡ true → Comes n k K P parts q calls
   handed-out [] q w ph ps f o g = absurd (clash (complete (length parts) (q .arrived)) g o)
   handed-out (c ∷ cs) q w ph ps f o g =
       let p = ps [] c cs refl in
       let r = one-call q w c p ph (f [] c cs refl) in
-      go (r .0) (complete (length parts) (seen n k K q c .arrived)) refl
-      (λ o′. handed-out cs (seen n k K q c) (sound-next q w c p) (r .1) (proper-rest c cs ps) (rest q c cs f) o′ g)
+      go (r .0) (complete (length parts) (historyWith n k K q c .arrived)) refl
+      (λ o′. handed-out cs (historyWith n k K q c) (sound-next q w c p) (r .1) (proper-rest c cs ps) (rest q c cs f) o′ g)
     where
       go : ((total number start : ℕ) → read k (c .input) ≡ reading.gives (part K total number start) → complete (length parts) (q .arrived) ≡ false
           → Serves n k K P parts q c number (outcome n (q .store) c))
-          → (b : Bool) → complete (length parts) (seen n k K q c .arrived) ≡ b → (complete (length parts) (seen n k K q c .arrived) ≡ false → Comes n k K P parts (seen n k K q c) cs) → Comes n k K P parts q (c ∷ cs)
+          → (b : Bool) → complete (length parts) (historyWith n k K q c .arrived) ≡ b → (complete (length parts) (historyWith n k K q c .arrived) ≡ false → Comes n k K P parts (historyWith n k K q c) cs) → Comes n k K P parts q (c ∷ cs)
       go s true e ih = record { u = []; c = c; v = cs; where-it-is = refl; last = last-call q c (outcome n (q .store) c) (read k (c .input)) refl refl (f [] c cs refl) s o e }
       go s false e ih =
           let h = ih e in

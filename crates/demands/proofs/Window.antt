@@ -35,7 +35,7 @@ use Rattle.series.specs.CaseLaws.{Bears, Lacks, Case, other-total, other-octets
 use Rattle.series.specs.KeepLaws.{short}
 use Rattle.demands.specs.Lists.{concat, elem, elemKey, add, addKey}
 use Rattle.demands.specs.Runs.{Call}
-use Rattle.demands.specs.Wake.{Cut, messages, pages, complete, counts, slotOf, Seen, firstSlot, NewPlace, lowest-free, least-recent, Repeated, Waits, Wakes}
+use Rattle.demands.specs.Wake.{Cut, messages, pages, complete, counts, slotOf, History, firstSlot, NewPlace, lowest-free, least-recent, Repeated, Waits, Wakes}
 use Rattle.demands.proofs.Lists.{add-old, add-not-nil, first-known, complete-add, one-short, elem-key-add, elem-key-self, length-add-key, pigeon, keys-apart, joined-parts}
 use Rattle.demands.proofs.Track.{aged-mono, closed-mono, length-short, Track, lacks-moved, track-moved, track-again, track-kept}
 
@@ -163,14 +163,14 @@ module _ (n : ℕ) (K : Key) (parts : List (List ℕ)) where
 
 -- ---- a call with the key
 -- what it comes to, and how far the series has come with it
-pub record Serves (n : ℕ) (k : Kind) (K : Key) (P : List ℕ) (parts : List (List ℕ)) (q : Seen) (c : Call) (number : ℕ) (a : After) : Type 0 where
+pub record Serves (n : ℕ) (k : Kind) (K : Key) (P : List ℕ) (parts : List (List ℕ)) (q : History) (c : Call) (number : ℕ) (a : After) : Type 0 where
   pub again : elem number (q .arrived) ≡ true → Repeated n k K P parts q c a
   pub waits : elem number (q .arrived) ≡ false → complete (length parts) (add number (q .arrived)) ≡ false → Waits n k K P parts q c number a
   pub wakes : elem number (q .arrived) ≡ false → complete (length parts) (add number (q .arrived)) ≡ true → Wakes n k K P parts q c a
   pub phase : Phase n K parts (a .state .rec .slots) (a .state .cells) (add number (q .arrived)) (firstSlot (q .arrived) (slotOf (a .answer)) (q .slot)) []
 
 module _ (n : ℕ) (k : Kind) (K : Key) (P : List ℕ) (parts : List (List ℕ)) (good : wellFormed k P ≡ true) (cut : Cut K P parts) (two : 2 ≤ length parts)
-    (q : Seen) (c : Call) (kind : q .store .rec .kind ≡ k) (w : Formed n k (q .store .rec .slots)) (long : length (q .store .cells) ≡ cellsSize n)
+    (q : History) (c : Call) (kind : q .store .rec .kind ≡ k) (w : Formed n k (q .store .rec .slots)) (long : length (q .store .cells) ≡ cellsSize n)
     (number : ℕ) (o : List ℕ) (adm : Admitted k K (length parts) number o) (brought : o ≡ getD parts (number - 1) []) where
   abbrev s : State
   s = state (q .store .rec) (q .store .cells) (c .output)

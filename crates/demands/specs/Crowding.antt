@@ -10,7 +10,7 @@ use Rattle.types.specs.declared.Kind.{Kind}
 use Rattle.types.specs.Refusals as reading
 use Rattle.types.specs.declared.Key.{Key}
 use Rattle.arrival.specs.Arrivals.{Brought, single, part}
-use Rattle.series.specs.Taking.{Answer, kept, heldAlready, packet, refused}
+use Rattle.series.specs.Taking.{Answer, kept, heldAlready, packet, refusedBy}
 use Rattle.series.specs.Calls.{read}
 use Rattle.demands.specs.Lists.{addKey, dropKey}
 use Rattle.demands.specs.Runs.{Call, Store, fresh, outcome, left, run, Each}
@@ -21,7 +21,7 @@ abbrev pub unfinishedAfter : Key → Answer → List Key → List Key
 unfinishedAfter X (kept i d) l = addKey X l
 unfinishedAfter X (heldAlready i) l = l
 unfinishedAfter X (packet m) l = dropKey X l
-unfinishedAfter X (refused m) l = cond (eqb m 9) (dropKey X l) l
+unfinishedAfter X (refusedBy m) l = cond (eqb m 9) (dropKey X l) l
 
 -- Which call bears a key is told by reading its octets.
 abbrev pub unfinishedWith : reading.Outcome Brought → Answer → List Key → List Key

@@ -19,7 +19,7 @@ use Rattle.series.specs.CaseLaws.{Lacks}
 use Rattle.series.specs.Calls.{Input, message, page}
 use Rattle.split.specs.Splitting as split
 use Rattle.demands.specs.Runs.{Call, fresh, outcome, run, Octets, Proper, Each}
-use Rattle.demands.specs.Wake.{complete, Seen, nothingSeen, EachWith, Served, Comes}
+use Rattle.demands.specs.Wake.{complete, History, historyFrom, EachWith, Served, Comes}
 use Rattle.demands.specs.SplitTaken.{listed, keyOf}
 
 -- The calls bring, in this order, the inputs that were written under these numbers, and nothing else; each lends an output of 01's length.
@@ -30,7 +30,7 @@ pub data Brings (t : ℕ) (written : ℕ → Input) : List ℕ → List Call →
 
 module _ (n : ℕ) (k : Kind) (K : Key) (P : List ℕ) (t : ℕ) (octets : ℕ → List ℕ) (written : ℕ → Input) where
   -- each call is answered exactly as the wake window says, and the packet comes at the one that brings the last missing part
-  pub record InParts (w : Seen) (calls : List Call) : Type 0 where
+  pub record InParts (w : History) (calls : List Call) : Type 0 where
     pub answered : EachWith n k K (length (listed octets t)) (Served n k K P (listed octets t)) w calls
     pub comes : Comes n k K P (listed octets t) w calls
 
@@ -40,7 +40,7 @@ module _ (n : ℕ) (k : Kind) (K : Key) (P : List ℕ) (t : ℕ) (octets : ℕ �
         → outcome n (run n (fresh n k cells) earlier) c
         ≡ after (packet (length P)) (run n (fresh n k cells) earlier .rec) (run n (fresh n k cells) earlier .cells) (P ++ drop (length P) (c .output))
     pub in-parts : (t ≡ 1 → ⊥) → Lacks n (run n (fresh n k cells) earlier .rec .slots) K → (order : List ℕ) (calls : List Call)
-        → Brings t written order calls → complete t order ≡ true → InParts (nothingSeen (run n (fresh n k cells) earlier)) calls
+        → Brings t written order calls → complete t order ≡ true → InParts (historyFrom (run n (fresh n k cells) earlier)) calls
 
   abbrev pub Delivered : Type 0
   Delivered = (cells : List ℕ) (earlier : List Call) → length cells ≡ cellsSize n → Each Proper earlier → Delivers cells earlier
@@ -60,7 +60,7 @@ MessagesWritten =
     (k : Kind) (width reference : ℕ) (P : List ℕ) → wellFormed k P ≡ true → referenceFits width reference ≡ true → length P ≤ split.mostSplit width
     → (number : ℕ) → 1 ≤ number → number ≤ split.parts width (length P) → (buffer : List ℕ) → length buffer ≡ mostUserData
     → split.writeMessage k width reference P number buffer
-    ≡ split.writes (gives (record { total = split.parts width (length P); octets = split.userData k width reference P number })) buffer
+    ≡ split.writesPart (gives (record { total = split.parts width (length P); octets = split.userData k width reference P number })) buffer
 
 -- and into pages, each with any DCS
 abbrev pub PagesDelivered : ℕ → Type 0
@@ -75,4 +75,4 @@ PagesWritten =
     (serial identifier dcs : ℕ) (P : List ℕ) → wellFormed Command P ≡ true → identifierInRange identifier ≡ true → length P ≤ split.mostPages
     → (number : ℕ) → 1 ≤ number → number ≤ split.pages (length P) → (buffer : List ℕ) → length buffer ≡ pageOctets
     → split.writePage serial identifier dcs P number buffer
-    ≡ split.writes (gives (record { total = split.pages (length P); octets = split.page serial identifier dcs P number })) buffer
+    ≡ split.writesPart (gives (record { total = split.pages (length P); octets = split.page serial identifier dcs P number })) buffer

@@ -12,8 +12,8 @@ use Rattle.types.specs.declared.Slot.{Slot}
 use Rattle.types.specs.declared.Record.{Record}
 use Rattle.slots.specs.Slots.{slotCount, freeSlot, freshRecord}
 use Rattle.series.specs.Cells.{cellsSize}
-use Rattle.series.specs.Taking.{After, kept, packet, refused, state, after}
-use Rattle.series.specs.Calls.{Input, message, page, take}
+use Rattle.series.specs.Taking.{After, kept, packet, refusedBy, state, after}
+use Rattle.series.specs.Calls.{Input, message, page, takeInput}
 
 -- "Let M be 00 0E 0D, then thirteen octets 00 00 00 00 B0 00 10 00 00 00 00 00 00: sixteen in all." CPL and CHL are given, since b, c and d
 -- change them.
@@ -38,7 +38,7 @@ Outcome = List ℕ → List ℕ → After
 
 -- record, cells and output as they were
 abbrev refuses : ℕ → Outcome
-refuses number cells output = after (refused number) (freshRecord slotCount Command) cells output
+refuses number cells output = after (refusedBy number) (freshRecord slotCount Command) cells output
 
 -- M handed out: its length, M at the start of the output, and the rest of that buffer as it was
 abbrev handsOutM : Outcome
@@ -114,7 +114,7 @@ examples =
 abbrev pub Right : Example → Type 0
 Right e =
     (cells output : List ℕ) → length cells ≡ cellsSize slotCount → length output ≡ mostOctets
-    → take slotCount (state (freshRecord slotCount Command) cells output) (e .input) ≡ e .outcome cells output
+    → takeInput slotCount (state (freshRecord slotCount Command) cells output) (e .input) ≡ e .outcome cells output
 
 abbrev pub Every : (Example → Type 0) → List Example → Type 0
 Every P [] = Unit {0}

@@ -18,9 +18,9 @@ use Rattle.arrival.specs.Page.{pageOctets}
 use Rattle.slots.specs.Slots.{slotAt, heldAt, freed, withSlots}
 use Rattle.formed.specs.Formed.{recordFormed}
 use Rattle.series.specs.Cells.{cellsSize}
-use Rattle.series.specs.Taking.{State, refused, state, refuse, completes}
+use Rattle.series.specs.Taking.{State, refusedBy, state, refuse, completes}
 use Rattle.series.specs.CaseLaws.{Bears}
-use Rattle.series.specs.Calls.{Input, read, take}
+use Rattle.series.specs.Calls.{Input, read, takeInput}
 use Rattle.split.specs.Splitting.{written, writeMessage, writePage}
 
 -- ---- taking
@@ -45,7 +45,7 @@ pub data Leaves (n : ℕ) (s : State) (i : Input) (number : ℕ) : State → Typ
       → Leaves n s i number (state (withSlots (s .rec) (freed (s .rec .slots) slot)) (s .cells) (s .output))
 
 abbrev pub TakingRefused : ℕ → Type 0
-TakingRefused n = (s : State) (i : Input) (number : ℕ) → take n s i .answer ≡ refused number → Leaves n s i number (take n s i .state)
+TakingRefused n = (s : State) (i : Input) (number : ℕ) → takeInput n s i .answer ≡ refusedBy number → Leaves n s i number (takeInput n s i .state)
 
 -- ---- building, checksum octets, writing parts and pages: the lent buffer stays as it was
 abbrev pub BuildingRefused : Type 0
@@ -78,9 +78,9 @@ ParsingRefused = (k : Kind) (c : Bool) (p : List ℕ) (number : ℕ) → parsing
 -- Each call that lends a buffer or takes a record: with a buffer of another length than 01's, or a record that is not well formed, it is
 -- refused 1, and everything stays as it was. Two calls have no number for it: `record_formed` says no, `put` says no and writes nothing.
 pub record UnfitRefused (n : ℕ) : Type 0 where
-  pub taking-cells : (s : State) (i : Input) → (length (s .cells) ≡ cellsSize n → ⊥) → take n s i ≡ refuse 1 s
-  pub taking-output : (s : State) (i : Input) → (length (s .output) ≡ mostOctets → ⊥) → take n s i ≡ refuse 1 s
-  pub taking-record : (s : State) (i : Input) → recordFormed n (s .rec) ≡ false → take n s i ≡ refuse 1 s
+  pub taking-cells : (s : State) (i : Input) → (length (s .cells) ≡ cellsSize n → ⊥) → takeInput n s i ≡ refuse 1 s
+  pub taking-output : (s : State) (i : Input) → (length (s .output) ≡ mostOctets → ⊥) → takeInput n s i ≡ refuse 1 s
+  pub taking-record : (s : State) (i : Input) → recordFormed n (s .rec) ≡ false → takeInput n s i ≡ refuse 1 s
   pub building : (k : Kind) (x : Fields) (buffer : List ℕ) → (length buffer ≡ mostOctets → ⊥) → built k x buffer ≡ lent (outcome.refused 1) buffer
   pub checksum-octets : (k : Kind) (c : Bool) (p buffer : List ℕ) → (length buffer ≡ mostChecksum → ⊥)
       → checksummed k c p buffer ≡ lent (outcome.refused 1) buffer

@@ -8,7 +8,7 @@ use Rattle.packet.specs.Packets.{mostOctets}
 use Rattle.types.specs.declared.Record.{Record}
 use Rattle.slots.specs.Slots.{freshRecord}
 use Rattle.series.specs.Taking.{After, state}
-use Rattle.series.specs.Calls.{Input, octetsOf, take}
+use Rattle.series.specs.Calls.{Input, octetsOf, takeInput}
 
 -- a call: what the network brings, and the output that the caller lends for it
 pub record Call : Type 0 where
@@ -26,7 +26,7 @@ fresh n k cells = record { rec = freshRecord n k; cells = cells }
 
 -- what a call comes to, and what it leaves
 abbrev pub outcome : ℕ → Store → Call → After
-outcome n st c = take n (state (st .rec) (st .cells) (c .output)) (c .input)
+outcome n st c = takeInput n (state (st .rec) (st .cells) (c .output)) (c .input)
 
 abbrev pub left : After → Store
 left a = record { rec = a .state .rec; cells = a .state .cells }

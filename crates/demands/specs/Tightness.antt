@@ -20,7 +20,7 @@ use Rattle.types.specs.declared.SerialNumber.{SerialNumber}
 use Rattle.types.specs.declared.MessageIdentifier.{MessageIdentifier}
 use Rattle.types.specs.declared.Record.{Record}
 use Rattle.types.specs.declared.Written.{Written}
-use Rattle.types.specs.Refusals.{Lent, lent, numberOf, toldWritten}
+use Rattle.types.specs.Refusals.{Lent, lent, refusalNumber, toldWritten}
 use Rattle.octets.specs.Octets as octets
 use Rattle.packet.specs.Packets.{plain, ciphered, formedBy, wellFormed, cipheredCommand, parsing, shownData, shownCheck, shownOpaque, built, checksummed}
 use Rattle.packet.specs.Told.{tarOctets, clearOctets, commandFixed, responseFixed, toldCommand, toldResponse}
@@ -62,7 +62,7 @@ toldTaken (r, (cells, output)) = taking.after (taking.toldAnswer (r .answer)) (r
 -- ---- no two outcomes are told alike
 pub record Tellings : Type 0 where
   -- Refusal::number
-  pub refusal-number : Tight numberOf
+  pub refusal-number : Tight refusalNumber
   -- parse_command, parse_response
   pub parse-command : Tight toldCommand
   pub parse-response : Tight toldResponse
@@ -95,7 +95,7 @@ One {Outcome} Promise = (r₁ r₂ : Outcome) → Promise r₁ → Promise r₂ 
 -- Each call that a user can name, by its name, with its promise: "No public call lacks such a statement". The outcome is the answer; with a
 -- lent buffer, the answer and the buffer afterwards; of a part of a slice, its octets. Where the part stands is not told (docs/PROMISES.md).
 pub record Promises : Type 0 where
-  pub refusal-number : (x : Refusal) → One (λ (r : ℕ). r ≡ numberOf x)
+  pub refusal-number : (x : Refusal) → One (λ (r : ℕ). r ≡ refusalNumber x)
   -- octets
   pub number-of : (high low : ℕ) → One (λ (r : ℕ). r ≡ octets.numberOf high low)
   pub pair-of : (n : ℕ) → One (λ (r : Pair). r ≡ octets.pairOf n)

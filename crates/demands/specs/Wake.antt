@@ -17,7 +17,7 @@ use Rattle.slots.specs.Below.{allBelow}
 use Rattle.types.specs.declared.Slot.{Slot}
 use Rattle.slots.specs.Slots.{slotAt, sameKey}
 use Rattle.series.specs.Cells.{cellsSize, cellAt}
-use Rattle.series.specs.Taking.{After, Answer, kept, heldAlready, packet, refused}
+use Rattle.series.specs.Taking.{After, Answer, kept, heldAlready, packet, refusedBy}
 use Rattle.series.specs.CaseLaws.{Bears, Lacks}
 use Rattle.series.specs.Calls.{read, octetsOf}
 use Rattle.demands.specs.Lists.{concat, elem, add, addKey}
@@ -39,25 +39,25 @@ abbrev pub counts : Answer → Bool
 counts (kept i d) = true
 counts (heldAlready i) = true
 counts (packet m) = false
-counts (refused m) = false
+counts (refusedBy m) = false
 
 -- the slot that an answer names
 abbrev pub slotOf : Answer → ℕ
 slotOf (kept i d) = i
 slotOf (heldAlready i) = i
 slotOf (packet m) = 0
-slotOf (refused m) = 0
+slotOf (refusedBy m) = 0
 
 -- What was seen before a call: what the calls before left; the numbers that calls with the key have brought, and the slot that the first of
 -- them was answered with; and the other keys that calls answered "kept" or "held already" have borne since the last call with the key.
-pub record Seen : Type 0 where
+pub record History : Type 0 where
   pub store : Store
   pub arrived : List ℕ
   pub slot : ℕ
   pub othersSince : List Key
 
-abbrev pub nothingSeen : Store → Seen
-nothingSeen st = record { store = st; arrived = []; slot = 0; othersSince = [] }
+abbrev pub historyFrom : Store → History
+historyFrom st = record { store = st; arrived = []; slot = 0; othersSince = [] }
 
 -- the slot of the first answer: this one's where nothing had come before, and else the one that it was
 abbrev pub firstSlot : List ℕ → ℕ → ℕ → ℕ
@@ -72,27 +72,27 @@ pub data NewPlace (n : ℕ) (xs : List Slot) : ℕ → Bool → Type 0 where
 
 module _ (n : ℕ) (k : Kind) (K : Key) where
   -- after a call that bears the key X and brings part `number`; the Boolean says whether X is K
-  abbrev pub seenPart : Seen → After → Key → ℕ → Bool → Seen
-  seenPart w a X number true =
+  abbrev pub historyPart : History → After → Key → ℕ → Bool → History
+  historyPart w a X number true =
       record { store = left a; arrived = add number (w .arrived); slot = firstSlot (w .arrived) (slotOf (a .answer)) (w .slot); othersSince = [] }
-  seenPart w a X number false =
+  historyPart w a X number false =
       record { store = left a; arrived = w .arrived; slot = w .slot; othersSince = cond (counts (a .answer)) (addKey X (w .othersSince)) (w .othersSince) }
 
   -- Which call bears a key is told by reading its octets, never by its answer.
-  abbrev pub seenAfter : Seen → After → reading.Outcome Brought → Seen
-  seenAfter w a (reading.refused m) = record { store = left a; arrived = w .arrived; slot = w .slot; othersSince = w .othersSince }
-  seenAfter w a (reading.gives (single start)) = record { store = left a; arrived = w .arrived; slot = w .slot; othersSince = w .othersSince }
-  seenAfter w a (reading.gives (part X total number start)) = seenPart w a X number (sameKey X K)
+  abbrev pub historyAfter : History → After → reading.Outcome Brought → History
+  historyAfter w a (reading.refused m) = record { store = left a; arrived = w .arrived; slot = w .slot; othersSince = w .othersSince }
+  historyAfter w a (reading.gives (single start)) = record { store = left a; arrived = w .arrived; slot = w .slot; othersSince = w .othersSince }
+  historyAfter w a (reading.gives (part X total number start)) = historyPart w a X number (sameKey X K)
 
-  abbrev pub seen : Seen → Call → Seen
-  seen w c = seenAfter w (outcome n (w .store) c) (read k (c .input))
+  abbrev pub historyWith : History → Call → History
+  historyWith w c = historyAfter w (outcome n (w .store) c) (read k (c .input))
 
-  abbrev pub follow : Seen → List Call → Seen
+  abbrev pub follow : History → List Call → History
   follow w [] = w
-  follow w (c ∷ cs) = follow (seen w c) cs
+  follow w (c ∷ cs) = follow (historyWith w c) cs
 
   -- a claim holds of each call that bears the key while parts are missing, with what was seen before it
-  abbrev pub EachWith : ℕ → (Seen → Call → (total number start : ℕ) → Type 0) → Seen → List Call → Type 0
+  abbrev pub EachWith : ℕ → (History → Call → (total number start : ℕ) → Type 0) → History → List Call → Type 0
   EachWith t Claim w calls =
       (u : List Call) (c : Call) (v : List Call) → calls ≡ u ++ c ∷ v → (total number start : ℕ)
       → read k (c .input) ≡ reading.gives (part K total number start) → complete t (follow w u .arrived) ≡ false → Claim (follow w u) c total number start
@@ -101,14 +101,14 @@ module _ (n : ℕ) (k : Kind) (K : Key) where
     -- ---- premise
     -- "each call with that key bring one of these parts, in any order, repeats allowed", and between two successive such calls fewer than n
     -- other keys: "at most two"
-    pub record Fair (w : Seen) (c : Call) (total number start : ℕ) : Type 0 where
+    pub record Fair (w : History) (c : Call) (total number start : ℕ) : Type 0 where
       pub counted : total ≡ length parts
       pub brought : drop start (octetsOf (c .input)) ≡ getD parts (number - 1) []
       pub fewOthers : (w .arrived ≡ [] → ⊥) → length (w .othersSince) < n
 
     -- ---- conclusion
     -- the number had come before: "held already" with the slot of the first answer, cells and output as they were
-    pub record Repeated (w : Seen) (c : Call) (a : After) : Type 0 where
+    pub record Repeated (w : History) (c : Call) (a : After) : Type 0 where
       pub answer : a .answer ≡ heldAlready (w .slot)
       pub bears : Bears n (a .state .rec .slots) K (w .slot)
       pub cells : a .state .cells ≡ w .store .cells
@@ -116,7 +116,7 @@ module _ (n : ℕ) (k : Kind) (K : Key) where
 
     -- Parts are still missing: "kept", at the first with the slot that a new key takes, and the mark of displacement if none is free; later
     -- with the slot of the first answer, and no mark. The part's octets stand at the start of its cell.
-    pub record Waits (w : Seen) (c : Call) (number : ℕ) (a : After) : Type 0 where
+    pub record Waits (w : History) (c : Call) (number : ℕ) (a : After) : Type 0 where
       pub slot : ℕ
       pub displaced : Bool
       pub answer : a .answer ≡ kept slot displaced
@@ -127,13 +127,13 @@ module _ (n : ℕ) (k : Kind) (K : Key) where
       pub output : a .state .output ≡ c .output
 
     -- the last missing part: exactly the packet is handed out, and the key is held no more
-    pub record Wakes (w : Seen) (c : Call) (a : After) : Type 0 where
+    pub record Wakes (w : History) (c : Call) (a : After) : Type 0 where
       pub answer : a .answer ≡ packet (length P)
       pub output : a .state .output ≡ P ++ drop (length P) (c .output)
       pub cells : a .state .cells ≡ w .store .cells
       pub gone : Lacks n (a .state .rec .slots) K
 
-    pub record Served (w : Seen) (c : Call) (total number start : ℕ) : Type 0 where
+    pub record Served (w : History) (c : Call) (total number start : ℕ) : Type 0 where
       pub again : elem number (w .arrived) ≡ true → Repeated w c (outcome n (w .store) c)
       pub waits : elem number (w .arrived) ≡ false → complete (length parts) (add number (w .arrived)) ≡ false → Waits w c number (outcome n (w .store) c)
       pub wakes : elem number (w .arrived) ≡ false → complete (length parts) (add number (w .arrived)) ≡ true → Wakes w c (outcome n (w .store) c)
@@ -150,8 +150,8 @@ module _ (n : ℕ) (k : Kind) (K : Key) (P : List ℕ) (parts : List (List ℕ))
     pub proper : Each Proper calls
     pub lacks : Lacks n (run n (fresh n k cells) earlier .rec .slots) K
 
-  abbrev pub begin : List ℕ → List Call → Seen
-  begin cells earlier = nothingSeen (run n (fresh n k cells) earlier)
+  abbrev pub begin : List ℕ → List Call → History
+  begin cells earlier = historyFrom (run n (fresh n k cells) earlier)
 
   -- THE WAKE WINDOW: "then no such call is refused, and the one that brings the last missing part hands out exactly that packet"
   abbrev pub WakeWindow : Type 0
@@ -162,7 +162,7 @@ module _ (n : ℕ) (k : Kind) (K : Key) (P : List ℕ) (parts : List (List ℕ))
 
   -- "the one that brings the last missing part hands out exactly that packet": it is read as a part of the key, its number had not come, and
   -- with it all have
-  pub record Last (w : Seen) (c : Call) : Type 0 where
+  pub record Last (w : History) (c : Call) : Type 0 where
     pub number : ℕ
     pub start : ℕ
     pub brings : read k (c .input) ≡ reading.gives (part K (length parts) number start)
@@ -171,7 +171,7 @@ module _ (n : ℕ) (k : Kind) (K : Key) (P : List ℕ) (parts : List (List ℕ))
     pub wakes : Wakes n k K P parts w c (outcome n (w .store) c)
 
   -- with all parts among the calls, such a call is there
-  pub record Comes (w : Seen) (calls : List Call) : Type 0 where
+  pub record Comes (w : History) (calls : List Call) : Type 0 where
     pub u : List Call
     pub c : Call
     pub v : List Call

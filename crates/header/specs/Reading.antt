@@ -37,11 +37,11 @@ abbrev pub wrongSeen : Seen → Seen
 wrongSeen s = record { wrong = true; twice = s .twice; concatenation = s .concatenation; command = s .command; response = s .response }
 
 -- a concatenation has a width, so a width tells that there was one
-abbrev pub told : Seen → Bool
-told s = not (eqb (s .concatenation .width) 0)
+abbrev pub hasConcatenation : Seen → Bool
+hasConcatenation s = not (eqb (s .concatenation .width) 0)
 
 abbrev pub concatenationSeen : Seen → Concatenation → Seen
-concatenationSeen s c = record { wrong = s .wrong; twice = told s || s .twice; concatenation = c; command = s .command; response = s .response }
+concatenationSeen s c = record { wrong = s .wrong; twice = hasConcatenation s || s .twice; concatenation = c; command = s .command; response = s .response }
 
 abbrev pub commandSeen : Seen → Seen
 commandSeen s = record { wrong = s .wrong; twice = s .command || s .twice; concatenation = s .concatenation; command = true; response = s .response }
@@ -51,7 +51,7 @@ responseSeen s = record { wrong = s .wrong; twice = s .response || s .twice; con
 
 -- whether an element repeats what was seen
 abbrev pub repeats : Seen → Item → Bool
-repeats s e = cond (isConcatenation e) (told s) (cond (has 0x70 e) (s .command) (cond (has 0x71 e) (s .response) false))
+repeats s e = cond (isConcatenation e) (hasConcatenation s) (cond (has 0x70 e) (s .command) (cond (has 0x71 e) (s .response) false))
 
 abbrev pub noted : Seen → Item → Seen
 noted s e = record {

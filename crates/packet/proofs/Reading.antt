@@ -24,7 +24,7 @@ use Rattle.types.specs.declared.ResponseBody.the-variants as response
 use Rattle.types.specs.declared.Refusal.{Refusal}
 use Rattle.packet.specs.declared.read.Judged.{Judged}
 use Rattle.packet.specs.declared.read.Judged.the-variants as judged
-use Rattle.types.specs.Refusals.{Outcome, refused, gives, numberOf as refusalNumber}
+use Rattle.types.specs.Refusals.{Outcome, refused, gives, refusalNumber}
 use Rattle.packet.specs.Packets.{before, least, chl, formedBy, wellFormed, cipheredCommand, fieldsOf, Parsed, plainParsed, cipheredParsed, measured, readable, parsing}
 use Rattle.packet.specs.Told.{tarOctets, clearOctets, counterOctets, commandFields, responseFields}
 use Rattle.packet.specs.Laws.{Formed, formed-facts, before-least, least-most}

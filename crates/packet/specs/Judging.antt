@@ -11,14 +11,14 @@ use Rattle.types.specs.declared.Kind.{Kind}
 use Rattle.types.specs.declared.Refusal.{Refusal}
 use Rattle.packet.specs.declared.read.Judged.{Judged}
 use Rattle.packet.specs.declared.read.Judged.the-variants as judged
-use Rattle.types.specs.Refusals.{Outcome, refused, gives, refuse_when_otherwise_, numberOf}
+use Rattle.types.specs.Refusals.{Outcome, refused, gives, refuse_when_otherwise_, refusalNumber}
 use Rattle.packet.specs.Packets.{chl, wellFormed, readable}
 use Rattle.packet.specs.Laws.{Formed, formed-facts}
 
 -- what the answer to "can this packet be read" says: the header length, or the refusal
 abbrev pub toldJudged : Judged → Outcome ℕ
 toldJudged (judged.Readable header) = gives header
-toldJudged (judged.Refused r) = refused (numberOf r)
+toldJudged (judged.Refused r) = refused (refusalNumber r)
 
 -- what follows where something was refused, and where it was not
 abbrev pub andThen : {A : Type 0} → Outcome ℕ → Outcome A → Outcome A
@@ -61,5 +61,5 @@ module _ (k : Kind) (p : List ℕ) (j : Judged) (e : toldJudged j ≡ readable k
     judged-readable o = sym (rw (readable-then k p (chl p) o, ← e, t))
 
   module _ (r : Refusal) (t : j ≡ judged.Refused r) where
-    pub judged-refused : {A : Type 0} (o : Outcome A) → refused (numberOf r) ≡ readable k p o
+    pub judged-refused : {A : Type 0} (o : Outcome A) → refused (refusalNumber r) ≡ readable k p o
     judged-refused o = rw (readable-then k p (chl p) o, ← e, t)

@@ -12,7 +12,7 @@ use Rattle.types.specs.declared.ParsedCommand.{ParsedCommand}
 use Rattle.types.specs.declared.ParsedCommand.the-variants as parsedCommand
 use Rattle.types.specs.declared.ParsedResponse.{ParsedResponse}
 use Rattle.types.specs.declared.ParsedResponse.the-variants as parsedResponse
-use Rattle.types.specs.Refusals.{Outcome, refused, gives, numberOf}
+use Rattle.types.specs.Refusals.{Outcome, refused, gives, refusalNumber}
 use Rattle.packet.specs.Packets.{Parsed, plainParsed, cipheredParsed}
 
 -- "TAR and CNTR pass as three and five octets."
@@ -44,8 +44,8 @@ responseFields t (response.Ciphered b) = cipheredParsed (tarOctets t) (b .header
 
 abbrev pub toldCommand : ParsedCommand → Outcome Parsed
 toldCommand (parsedCommand.Fields c) = gives (commandFields (c .clear) (c .body))
-toldCommand (parsedCommand.Refused r) = refused (numberOf r)
+toldCommand (parsedCommand.Refused r) = refused (refusalNumber r)
 
 abbrev pub toldResponse : ParsedResponse → Outcome Parsed
 toldResponse (parsedResponse.Fields c) = gives (responseFields (c .tar) (c .body))
-toldResponse (parsedResponse.Refused r) = refused (numberOf r)
+toldResponse (parsedResponse.Refused r) = refused (refusalNumber r)

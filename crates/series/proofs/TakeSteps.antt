@@ -40,7 +40,7 @@ use Rattle.slots.specs.Order.{frontIn, freedIn, front-in, freed-in}
 use Rattle.formed.specs.Formed.{recordFormed}
 use Rattle.series.specs.Cells.{cellsSize, cellAt, cellPart, joinedOctets}
 use Rattle.series.specs.Handing.{Short, cellStart, seriesOctets}
-use Rattle.series.specs.Taking.{State, Answer, After, kept, heldAlready, packet, refused, state, after, handOut, completes, Step, refuses, repeats, keeps, finishes, stepNew, step, acted, takePart, takeMessage, takePage}
+use Rattle.series.specs.Taking.{State, Answer, After, kept, heldAlready, packet, refusedBy, state, after, handOut, completes, Step, refuses, repeats, keeps, finishes, stepNew, step, acted, takePart, takeMessage, takePage}
 use Rattle.series.specs.KeepLaws.{Sound}
 use Rattle.series.specs.Deciding.{allWith, toldStep, stepAt, keyOf, answerOf, Room, Whole, Fitting, takenWhereFit}
 use Rattle.series.proofs.CellLaws.{cell-part, joined-pieces, short-at}
@@ -105,7 +105,7 @@ module _ (z : Size) where
   pub answer-packet : (n : ℕ) → z ≡ size.Octets n → packet n ≡ answerOf (toldSize z)
   answer-packet n e = rw e
 
-  pub answer-none : z ≡ size.None → refused 9 ≡ answerOf (toldSize z)
+  pub answer-none : z ≡ size.None → refusedBy 9 ≡ answerOf (toldSize z)
   answer-none e = rw e
 
 -- a single message or page, for which the output has room
@@ -186,7 +186,7 @@ module _ (r : Record) (cells output : List ℕ) (paged : Bool) (total number : �
   here : x ≡ slotAt (r .slots) i
   here = copied ∙ slot-in slotCount (r .slots) i (room .place .0)
 
-  pub acts-refuses : (q : Refusal) → z ≡ Refuses q → a ≡ refused (refusal.numberOf q) → r′ ≡ r → after a r′ cells output ≡ due
+  pub acts-refuses : (q : Refusal) → z ≡ Refuses q → a ≡ refusedBy (refusal.refusalNumber q) → r′ ≡ r → after a r′ cells output ≡ due
   acts-refuses q e h f = rw (← here, ← told, e, h, f)
 
   pub acts-repeats : z ≡ Repeats → a ≡ heldAlready i → r′ ≡ withSlots r (toFront (r .slots) i x) → after a r′ cells output ≡ due
@@ -261,10 +261,10 @@ module _ (r : Record) (cells output : List ℕ) (b : Bool)
     took = takenWhereFit slotCount (state r cells output) paged octets (toldArrival z)
 
     module _ (a : Answer) (r′ : Record) where
-      pub takes-unfit : b ≡ true → a ≡ refused 1 → r′ ≡ r → after a r′ cells output ≡ took
+      pub takes-unfit : b ≡ true → a ≡ refusedBy 1 → r′ ≡ r → after a r′ cells output ≡ took
       takes-unfit e h f = rw (← told, e, h, f)
 
-      pub takes-refused : (q : Refusal) → b ≡ false → z ≡ arrival.Refused q → a ≡ refused (refusal.numberOf q) → r′ ≡ r
+      pub takes-refused : (q : Refusal) → b ≡ false → z ≡ arrival.Refused q → a ≡ refusedBy (refusal.refusalNumber q) → r′ ≡ r
           → after a r′ cells output ≡ took
       takes-refused q fit e h f = rw (← told, fit, e, h, f)
 

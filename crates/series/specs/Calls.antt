@@ -24,6 +24,6 @@ read k (message sender ud) = readMessage k sender ud
 read k (page o) = readPage k o
 
 -- what taking it comes to, with n slots
-abbrev pub take : ℕ → State → Input → After
-take n s (message sender ud) = takeMessage n s sender ud
-take n s (page o) = takePage n s o
+abbrev pub takeInput : ℕ → State → Input → After
+takeInput n s (message sender ud) = takeMessage n s sender ud
+takeInput n s (page o) = takePage n s o

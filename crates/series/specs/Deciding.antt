@@ -8,7 +8,7 @@ use lib.ListN.{length, getD, drop}
 use lib.Dec.{eqb}
 use Rattle.types.specs.declared.Kind.{Kind}
 use Rattle.types.specs.declared.Kind.the-variants.{Command}
-use Rattle.types.specs.Refusals.{Outcome, numberOf}
+use Rattle.types.specs.Refusals.{Outcome, refusalNumber}
 use Rattle.packet.specs.Packets.{mostOctets}
 use Rattle.types.specs.declared.Key.{Key}
 use Rattle.types.specs.declared.Arrival as arrival
@@ -23,7 +23,7 @@ use Rattle.slots.specs.Below.{allBelow}
 use Rattle.slots.specs.Slots.{slotCount, slotAt, noKey, freshRecord}
 use Rattle.series.specs.Cells.{cellOctets, cellsSize, joinedOctets}
 use Rattle.series.specs.Handing.{Place, Short}
-use Rattle.series.specs.Taking.{State, After, Answer, refused, packet, state, refuse, taken, unfit, Step, refuses, repeats, keeps, finishes, stepIn}
+use Rattle.series.specs.Taking.{State, After, Answer, refusedBy, packet, state, refuse, taken, unfit, Step, refuses, repeats, keeps, finishes, stepIn}
 
 -- ---- the step
 -- of `completes`: each part up to the total is marked, or has the number
@@ -32,7 +32,7 @@ allWith held total number = allBelow total (λ i. eqb (i + 1) number || getD hel
 
 -- what the enum of a decision says, of slot i, which is x
 abbrev pub toldStep : ℕ → Slot → declared.Step → Step
-toldStep i x (Refuses r) = refuses (numberOf r)
+toldStep i x (Refuses r) = refuses (refusalNumber r)
 toldStep i x Repeats = repeats i
 toldStep i x Keeps = keeps i false x
 toldStep i x Finishes = finishes i
@@ -49,7 +49,7 @@ keyOf false = record { sender = 0; width = 8; reference = 0; serial = record { 0
 -- ---- acting
 -- the answer to a packet of that length, and to none
 abbrev pub answerOf : Option ℕ → Answer
-answerOf none = refused 9
+answerOf none = refusedBy 9
 answerOf (some n) = packet n
 
 -- what writing part `number` to slot i, and bringing the slot to the front, rely on

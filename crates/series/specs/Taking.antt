@@ -34,13 +34,13 @@ pub data Answer : Type 0 where
   kept : (slot : ℕ) (displaced : Bool) → Answer
   heldAlready : (slot : ℕ) → Answer
   packet : (size : ℕ) → Answer
-  refused : (number : ℕ) → Answer
+  refusedBy : (number : ℕ) → Answer
 
 abbrev pub toldAnswer : declared.Answer → Answer
 toldAnswer (declared.the-variants.Kept s d) = kept s d
 toldAnswer (declared.the-variants.HeldAlready s) = heldAlready s
 toldAnswer (declared.the-variants.Packet n) = packet n
-toldAnswer (declared.the-variants.Refused r) = refused (refusal.numberOf r)
+toldAnswer (declared.the-variants.Refused r) = refusedBy (refusal.refusalNumber r)
 
 pub record After : Type 0 where
   pub answer : Answer
@@ -54,12 +54,12 @@ after a r cells output = record { answer = a; state = state r cells output }
 
 -- a refusal alters nothing
 abbrev pub refuse : ℕ → State → After
-refuse n s = record { answer = refused n; state = s }
+refuse n s = record { answer = refusedBy n; state = s }
 
 -- ---- handing out
 -- The packet stands at the start of the output, the rest of that buffer stays; where there is none in the octets: 9.
 abbrev pub handOut : State → Record → Option (List ℕ) → After
-handOut s r none = after (refused 9) r (s .cells) (s .output)
+handOut s r none = after (refusedBy 9) r (s .cells) (s .output)
 handOut s r (some p) = after (packet (length p)) r (s .cells) (p ++ drop (length p) (s .output))
 
 -- ---- what a part does

@@ -23,7 +23,7 @@ ghost use Prim.Native.Nat.{ℕ, _≤_, _<_};
 ghost use lib.ListN.{length};
 ghost use lib.Dec.{eqb};
 ghost use Rattle.octets.specs.Octets.{placed};
-ghost use Rattle.types.specs.Refusals.{numberOf};
+ghost use Rattle.types.specs.Refusals.{refusalNumber};
 ghost use Rattle.packet.specs.Packets.{mostOctets};
 ghost use Rattle.arrival.specs.Arrivals.{toldArrival};
 ghost use Rattle.arrival.specs.Message.{mostParts};
@@ -91,7 +91,7 @@ fn decide(x: Slot, i: usize, total: u8, number: usize, cells: &[u8], part: &[u8]
 // ---- acting
 // A refusal leaves the record as it is.
 fn refused(unchanged: Record, why: Refusal) -> Taken
-    ensures { λ r. ⌜ (toldAnswer (r .answer) ≡ rule.refused (numberOf why)) × (r .record ≡ unchanged) ⌝ }
+    ensures { λ r. ⌜ (toldAnswer (r .answer) ≡ rule.refusedBy (refusalNumber why)) × (r .record ≡ unchanged) ⌝ }
 {
     Taken {
         answer: Answer::Refused(why),

@@ -11,7 +11,7 @@ use Rattle.octets.specs.Tests.{neither}
 use Rattle.types.specs.declared.Kind.{Kind}
 use Rattle.types.specs.declared.Kind.the-variants.{Command}
 use Rattle.types.specs.declared.Refusal.{Refusal}
-use Rattle.types.specs.Refusals.{Outcome, refused, gives, refuse_when_otherwise_, numberOf}
+use Rattle.types.specs.Refusals.{Outcome, refused, gives, refuse_when_otherwise_, refusalNumber}
 use Rattle.packet.specs.Packets.{wellFormed}
 use Rattle.packet.specs.Laws.{formed-facts}
 use Rattle.arrival.specs.Message.{mostUserData}
@@ -19,7 +19,7 @@ use Rattle.arrival.specs.Page.{pageOctets, identifierInRange}
 use Rattle.arrival.specs.Keys.{referenceFits}
 use Rattle.split.specs.declared.Due.{Due}
 use Rattle.split.specs.declared.Due.the-variants as due
-use Rattle.split.specs.Splitting.{Piece, written, writes, parts, mostSplit, noSuchPart, userData, writing, writeMessage, pages, page, mostPages, writingPage, writePage}
+use Rattle.split.specs.Splitting.{Piece, written, writesPart, parts, mostSplit, noSuchPart, userData, writing, writeMessage, pages, page, mostPages, writingPage, writePage}
 use Rattle.split.specs.Laws.{most-parts, most-pages}
 use Rattle.split.specs.Within.{Ready, PageReady, Standing, toldDue, judging, judgingPage}
 
@@ -124,18 +124,18 @@ module _ (t : Tests) (x : Due) (y : Piece) (h : toldDue x ≡ tested t (y .total
       go (refuses n a b) = let z : _≡_ {A = ℕ} 0 1 = cc in absurd (omega arith)
       go (passes p a b) = (p, cc)
 
-  call-refused : (r : Refusal) (buffer : List ℕ) → x ≡ due.Refused r → written (refused (numberOf r)) buffer ≡ writes (tested t y) buffer
+  call-refused : (r : Refusal) (buffer : List ℕ) → x ≡ due.Refused r → written (refused (refusalNumber r)) buffer ≡ writesPart (tested t y) buffer
   call-refused r buffer f = go case
     where
-      go : Judged t (y .total) y → written (refused (numberOf r)) buffer ≡ writes (tested t y) buffer
-      go (refuses n a b) = let e : numberOf r ≡ n = cc in rw (b, e)
+      go : Judged t (y .total) y → written (refused (refusalNumber r)) buffer ≡ writesPart (tested t y) buffer
+      go (refuses n a b) = let e : refusalNumber r ≡ n = cc in rw (b, e)
       go (passes p a b) = let z : _≡_ {A = ℕ} 0 1 = cc in absurd (omega arith)
 
   call-written : (total size : ℕ) (buffer after : List ℕ) → x ≡ due.Total total → Standing (y .octets) size buffer after
-      → written (gives (record { total = total; size = size })) after ≡ writes (tested t y) buffer
+      → written (gives (record { total = total; size = size })) after ≡ writesPart (tested t y) buffer
   call-written total size buffer after f s = go case
     where
-      go : Judged t (y .total) y → written (gives (record { total = total; size = size })) after ≡ writes (tested t y) buffer
+      go : Judged t (y .total) y → written (gives (record { total = total; size = size })) after ≡ writesPart (tested t y) buffer
       go (refuses n a b) = let z : _≡_ {A = ℕ} 0 1 = cc in absurd (omega arith)
       go (passes p a b) = rw (b, passed total f .1, s .long, s .stands)
 
@@ -173,7 +173,7 @@ module _ (k : Kind) (width reference : ℕ) (p : List ℕ) (number : ℕ) where
       }
 
   module _ (x : Due) (buffer : List ℕ) (e : toldDue x ≡ judging k width reference p number (length buffer)) where
-    pub message-refused : (r : Refusal) → x ≡ due.Refused r → written (refused (numberOf r)) buffer ≡ writeMessage k width reference p number buffer
+    pub message-refused : (r : Refusal) → x ≡ due.Refused r → written (refused (refusalNumber r)) buffer ≡ writeMessage k width reference p number buffer
     unfolding writeMessage writing
     message-refused r f = call-refused (messageTests (length buffer)) x messagePiece e r buffer f
 
@@ -206,7 +206,7 @@ module _ (identifier : ℕ) (p : List ℕ) (number : ℕ) where
       record { lent = eqb-true size pageOctets (a .lent); all = s; most = omega arith; first = low; last = omega arith }
 
   module _ (serial dcs : ℕ) (x : Due) (buffer : List ℕ) (e : toldDue x ≡ judgingPage identifier p number (length buffer)) where
-    pub page-refused : (r : Refusal) → x ≡ due.Refused r → written (refused (numberOf r)) buffer ≡ writePage serial identifier dcs p number buffer
+    pub page-refused : (r : Refusal) → x ≡ due.Refused r → written (refused (refusalNumber r)) buffer ≡ writePage serial identifier dcs p number buffer
     unfolding writePage writingPage
     page-refused r f = call-refused (pageTests (length buffer)) x (pagePiece (page serial identifier dcs p number)) e r buffer f
 

@@ -7,7 +7,7 @@ use lib.Dec.{eqb, ltb, leb}
 use Rattle.octets.specs.Octets.{pairOf}
 use Rattle.types.specs.declared.Kind.{Kind}
 use Rattle.types.specs.declared.Kind.the-variants.{Command, Response}
-use Rattle.types.specs.Refusals.{Outcome, refused, gives, refuse_when_otherwise_, numberOf}
+use Rattle.types.specs.Refusals.{Outcome, refused, gives, refuse_when_otherwise_, refusalNumber}
 use Rattle.packet.specs.Packets.{wellFormed}
 use Rattle.arrival.specs.Message.{mostUserData, mostParts}
 use Rattle.arrival.specs.Page.{pageOctets, pageContent, identifierInRange}
@@ -28,7 +28,7 @@ pub record Told : Type 0 where
 
 abbrev pub told : declared.WrittenPart → Outcome Told
 told (declared.the-variants.Part t n) = gives (record { total = t; size = n })
-told (declared.the-variants.Refused r) = refused (numberOf r)
+told (declared.the-variants.Refused r) = refused (refusalNumber r)
 
 pub record Written : Type 0 where
   pub answer : Outcome Told
@@ -37,9 +37,9 @@ pub record Written : Type 0 where
 abbrev pub written : Outcome Told → List ℕ → Written
 written a b = record { answer = a; buffer = b }
 
-abbrev pub writes : Outcome Piece → List ℕ → Written
-writes (refused n) buffer = written (refused n) buffer
-writes (gives x) buffer =
+abbrev pub writesPart : Outcome Piece → List ℕ → Written
+writesPart (refused n) buffer = written (refused n) buffer
+writesPart (gives x) buffer =
     written (gives (record { total = x .total; size = length (x .octets) })) (x .octets ++ drop (length (x .octets)) buffer)
 
 -- ---- user data
@@ -106,7 +106,7 @@ writing k width reference p number buffer =
     gives (record { total = parts width (length p); octets = userData k width reference p number })
 
 unfoldable pub writeMessage : Kind → ℕ → ℕ → List ℕ → ℕ → List ℕ → Written
-writeMessage k width reference p number buffer = writes (writing k width reference p number buffer) buffer
+writeMessage k width reference p number buffer = writesPart (writing k width reference p number buffer) buffer
 
 -- ---- pages
 -- "A packet in t pages has 82(t − 1) + 1 to 82t octets"; "Pages are full, the last filled with 00".
@@ -142,4 +142,4 @@ writingPage serial identifier dcs p number buffer =
     gives (record { total = pages (length p); octets = page serial identifier dcs p number })
 
 unfoldable pub writePage : ℕ → ℕ → ℕ → List ℕ → ℕ → List ℕ → Written
-writePage serial identifier dcs p number buffer = writes (writingPage serial identifier dcs p number buffer) buffer
+writePage serial identifier dcs p number buffer = writesPart (writingPage serial identifier dcs p number buffer) buffer

@@ -8,7 +8,7 @@ use lib.Dec.{eqb, ltb}
 use Rattle.octets.specs.Octets.{pairOf, placed}
 use Rattle.types.specs.declared.Kind.{Kind}
 use Rattle.types.specs.declared.Kind.the-variants.{Command}
-use Rattle.types.specs.Refusals.{Outcome, refused, gives, refuse_when_otherwise_, numberOf}
+use Rattle.types.specs.Refusals.{Outcome, refused, gives, refuse_when_otherwise_, refusalNumber}
 use Rattle.packet.specs.Packets.{wellFormed}
 use Rattle.arrival.specs.Message.{mostUserData}
 use Rattle.arrival.specs.Page.{pageOctets, identifierInRange}
@@ -20,7 +20,7 @@ use Rattle.split.specs.Splitting.{parts, mostSplit, pages, mostPages, no
 -- what the answer to "is this part due" says: the number of parts, or the refusal
 abbrev pub toldDue : Due → Outcome ℕ
 toldDue (due.Total total) = gives total
-toldDue (due.Refused r) = refused (numberOf r)
+toldDue (due.Refused r) = refused (refusalNumber r)
 
 -- The refusals of writing user data, and of writing a page, of a buffer of `size` octets; where there is none, the number of parts.
 abbrev pub judging : Kind → ℕ → ℕ → List ℕ → ℕ → ℕ → Outcome ℕ

@@ -9,21 +9,21 @@ use Rattle.types.specs.declared.Written.{Written}
 use Rattle.types.specs.declared.Written.the-variants.{Octets, Refused}
 
 -- the number that the table of 01 gives to each
-abbrev pub numberOf : Refusal → ℕ
-numberOf BufferOrRecord = 1
-numberOf Size = 2
-numberOf Header = 3
-numberOf Element = 4
-numberOf Identifier = 5
-numberOf Total = 6
-numberOf OtherTotal = 7
-numberOf OtherOctets = 8
-numberOf NotWellFormed = 9
-numberOf Cipher = 10
-numberOf HeaderLength = 11
-numberOf PacketLength = 12
-numberOf Reference = 13
-numberOf Number = 14
+abbrev pub refusalNumber : Refusal → ℕ
+refusalNumber BufferOrRecord = 1
+refusalNumber Size = 2
+refusalNumber Header = 3
+refusalNumber Element = 4
+refusalNumber Identifier = 5
+refusalNumber Total = 6
+refusalNumber OtherTotal = 7
+refusalNumber OtherOctets = 8
+refusalNumber NotWellFormed = 9
+refusalNumber Cipher = 10
+refusalNumber HeaderLength = 11
+refusalNumber PacketLength = 12
+refusalNumber Reference = 13
+refusalNumber Number = 14
 
 -- what a call comes to: a refusal by its number, or what it gives
 pub data Outcome (A : Type 0) : Type 0 where
@@ -52,4 +52,4 @@ writes (gives octets) buffer = (gives (length octets), octets ++ drop (length oc
 -- what the enum of an answer says
 abbrev pub toldWritten : Written → Outcome ℕ
 toldWritten (Octets n) = gives n
-toldWritten (Refused r) = refused (numberOf r)
+toldWritten (Refused r) = refused (refusalNumber r)

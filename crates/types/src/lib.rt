@@ -1,6 +1,6 @@
 // The types that users of the library meet, in one place: whoever looks into one of them lists this crate beside `skelmarix`.
 ghost use mathlib.Core.Path.{_≡_};
-ghost use Rattle.types.specs.Refusals.{numberOf};
+ghost use Rattle.types.specs.Refusals.{refusalNumber};
 
 // Which way a packet goes: to the card, or back from it.
 pub enum Kind {
@@ -29,7 +29,7 @@ pub enum Refusal {
 impl Refusal {
     // The number that the table of refusals gives to each.
     pub fn number(self) -> u8
-        ensures { λ r. ⌜ r ≡ numberOf self ⌝ }
+        ensures { λ r. ⌜ r ≡ refusalNumber self ⌝ }
     {
         match self {
             Refusal::BufferOrRecord => 1,
