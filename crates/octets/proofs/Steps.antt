@@ -1,16 +1,18 @@
 -- What the proofs of `octets` cite: one law for each return, over plain variables.
 use Prim.Native.Nat.{ℕ, _+_, _-_, _≤_, _<_}
-use mathlib.Core.Path.{_≡_, refl, sym}
-use mathlib.Core.Bool.{Bool, true, false}
+use mathlib.Core.Path.{_≡_, refl, sym, ap, _∙_}
+use mathlib.Core.Bool.{Bool, true, false, _&&_}
 use mathlib.Core.List.{List, _++_, append-nil}
 use native.Mathlib.Omega.{arith}
 use native.Mathlib.Nat.{add-sub-cancel-left}
-use lib.ListN.{length, take, drop, length-take, drop-of-length-le}
-use lib.Seq.{take-length, take-all, length-take-le, drop-drop}
+use native.Mathlib.Numerals.{add-one}
+use lib.ListN.{length, getD, take, drop, length-take, drop-of-length-le}
+use lib.Dec.{eqb}
+use lib.Seq.{take-length, take-all, length-take-le, drop-drop, drop-cons}
 use borrow.Author.Needs.{needs}
 use borrow.Author.Tests.{le-leb, lt-leb}
 use Rattle.octets.specs.Octets.{placed, fitsAt, afterPut, sameOctets}
-use Rattle.octets.specs.Laws.{same-self, same-true}
+use Rattle.octets.specs.Laws.{same-true}
 
 -- the first of a slice: n of them, or all
 pub take-count : (n : ℕ) (p : List ℕ) → n < length p → n ≡ length (take n p)
@@ -48,14 +50,37 @@ module _ (d : List ℕ) (at : ℕ) (p : List ℕ) where
       let none : length (take (length p) (drop at d)) ≤ length p = simp length-take (omega arith) in
       rw (e, add-sub-cancel-left, take-length, drop-of-length-le (take (length p) (drop at d)) none, append-nil, drop-drop, le-leb (at + length p) (length d) (omega arith))
 
--- `check::same` tells both ways, so its answer is the test
-pub same-told : (r : Bool) (a b : List ℕ) → (r ≡ true → a ≡ b) × (a ≡ b → r ≡ true) → r ≡ sameOctets a b
-same-told true a b h = rw (h .0 refl) (sym (same-self b))
-same-told false a b h = go (sameOctets a b) refl
+-- ---- comparing: what was found of the first i octets, and what the others come to, is the whole answer
+pub unequal-lengths : (a b : List ℕ) → (length a ≡ length b → ⊥) → false ≡ sameOctets a b
+unequal-lengths a b n = go (sameOctets a b) refl
   where
     go : (t : Bool) → sameOctets a b ≡ t → false ≡ t
-    go true e = h .1 (same-true a b e)
+    go true e = absurd (n (ap length (same-true a b e)))
     go false e = refl
+
+regroup : (p q r : Bool) → (p && q) && r ≡ p && (q && r)
+regroup true q r = refl
+regroup false q r = refl
+
+alone : (p : Bool) → p && true ≡ p
+alone true = refl
+alone false = refl
+
+module _ (a b : List ℕ) where
+  pub none-compared : true && sameOctets (drop 0 a) (drop 0 b) ≡ sameOctets a b
+  none-compared = refl
+
+  module _ (i : ℕ) (ok : Bool) (even : length a ≡ length b) (found : ok && sameOctets (drop i a) (drop i b) ≡ sameOctets a b) where
+    pub one-compared : i < length a
+        → (ok && eqb (getD a i 0) (getD b i 0)) && sameOctets (drop (i + 1) a) (drop (i + 1) b) ≡ sameOctets a b
+    unfolding sameOctets
+    one-compared l = rw (regroup, add-one) (rw (drop-cons a i 0 l, drop-cons b i 0 (omega arith)) at found)
+
+    pub all-compared : length a ≤ i → ok ≡ sameOctets a b
+    unfolding sameOctets
+    all-compared l =
+        let m : length b ≤ i = omega arith in
+        sym (alone ok) ∙ rw (drop-of-length-le a l, drop-of-length-le b m) at found
 
 pub ruleset steps = (
   needs,
@@ -67,5 +92,8 @@ pub ruleset steps = (
   short-unchanged,
   fits-told,
   fits-written,
-  same-told,
+  unequal-lengths,
+  none-compared,
+  one-compared,
+  all-compared,
 )
