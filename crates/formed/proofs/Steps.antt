@@ -1,23 +1,25 @@
 -- What the proofs of well-formedness cite: one law for each return, call and turn of a loop, over plain variables.
-use Prim.Native.Nat.{ℕ, _+_, _≤_}
-use mathlib.Core.Path.{_≡_}
-use mathlib.Core.Bool.{Bool, true, false, not, _&&_}
+use Prim.Native.Nat.{ℕ, _+_, _-_, _≤_, _<_}
+use mathlib.Core.Path.{_≡_, refl, sym}
+use mathlib.Core.Bool.{Bool, true, false, not, cond, _&&_, _||_}
 use mathlib.Core.List.{List}
 use lib.ListN.{length}
 use lib.Dec.{eqb, ltb, leb}
 use borrow.Author.Needs.{needs}
-use borrow.Author.Tests.{eq-eqb, ne-eqb}
+use native.Mathlib.Omega.{arith}
+use borrow.Author.Tests.{eq-eqb, ne-eqb, eqb-true, ltb-true, ltb-false, leb-true, le-leb, lt-leb}
+use Rattle.octets.specs.Tests.{both, by-test}
 use Rattle.types.specs.declared.Kind.{Kind}
 use Rattle.types.specs.declared.Key.{Key}
 use Rattle.arrival.specs.Message.{mostParts}
 use Rattle.arrival.specs.Page.{identifierInRange, noPages, pageContent}
-use Rattle.arrival.specs.Keys.{referenceFits, messageKeyFormed, pageKeyFormed, keyFormed, totalFits, room, lengthFits}
+use Rattle.arrival.specs.Keys.{ofPages, referenceFits, messageKeyFormed, pageKeyFormed, keyFormed, totalFits, room, lengthFits}
 use Rattle.types.specs.declared.Slot.{Slot}
 use Rattle.slots.specs.Below.{allBelow}
-use Rattle.slots.specs.BelowLaws.{all-from, all-more, all-through, any-from, any-more, any-through, count-from, count-more, count-through}
+use Rattle.slots.specs.BelowLaws.{fault-from, fault-more, fault-through, all-but-first, all-from, all-more, all-through, any-from, any-more, any-through, count-from, count-more, count-through}
 use Rattle.slots.specs.Slots.{slotAt, used, sameKey}
-use Rattle.formed.specs.Formed.{sixteen, zeroKey, zeroPart, allZero, partFormed, heldCount, usedFormed, slotFormed, clash, keysDiffer, usedCount, isRank, ranked, slotsFormed}
-use Rattle.formed.specs.Pieces.{partFits, slotsHold, keyDiffers}
+use Rattle.formed.specs.Formed.{sixteen, markAt, sizeAt, zeroKey, zeroPart, allZero, partFormed, heldCount, usedFormed, slotFormed, clash, keysDiffer, usedCount, isRank, ranked, slotsFormed}
+use Rattle.formed.specs.Pieces.{fewest, most, partWithin, slotsHold, keyDiffers}
 use Rattle.slots.specs.Found.{length-of-map}
 
 -- ---- keys
@@ -46,21 +48,104 @@ module _ (x : Key) (t : ℕ) where
   total-of-message w = rw (ne-eqb (x .width) 0 w)
 
 -- ---- lengths of parts
-module _ (x : Key) (number n : ℕ) where
-  pub page-length : x .width ≡ 0 → eqb n pageContent ≡ lengthFits x number n
+module _ (x : Key) where
+  pub fewest-page : x .width ≡ 0 → pageContent ≡ fewest x
+  fewest-page w = rw (eq-eqb (x .width) 0 w)
+
+  pub fewest-message : (x .width ≡ 0 → ⊥) → 0 ≡ fewest x
+  fewest-message w = rw (ne-eqb (x .width) 0 w)
+
+  pub most-page : (number : ℕ) → x .width ≡ 0 → pageContent ≡ most x number
+  most-page number w = rw (eq-eqb (x .width) 0 w)
+
+  pub most-message : (number m : ℕ) → (x .width ≡ 0 → ⊥) → m ≡ room (x .width) number → m ≡ most x number
+  most-message number m w e = rw (ne-eqb (x .width) 0 w) e
+
+-- a fault is what is not so
+pub zero-wrong : (x : Slot) (i : ℕ) → (markAt x i || not (eqb (sizeAt x i) 0)) ≡ not (zeroPart x i)
+zero-wrong x i = go (markAt x i) (eqb (sizeAt x i) 0)
+  where
+    go : (h z : Bool) → (h || not z) ≡ not (not h && z)
+    go true z = refl
+    go false z = refl
+
+pub part-wrong : (x : Slot) (i low high : ℕ) → low ≡ fewest (x .key) → high ≡ most (x .key) 2
+    → ((markAt x i && (leb (x .total) i || ltb (sizeAt x i) low || ltb high (sizeAt x i))) || (not (markAt x i) && not (eqb (sizeAt x i) 0)))
+    ≡ not (partWithin x i)
+part-wrong x i low high e f = rw (e, f) (go (markAt x i) (x .total) (sizeAt x i) (fewest (x .key)) (most (x .key) 2))
+  where
+    turn : (a b c : Bool) → ((not a || b || c) || false) ≡ not (a && (not b && not c))
+    turn true true c = refl
+    turn true false true = refl
+    turn true false false = refl
+    turn false b c = refl
+
+    outside : (a b : ℕ) → leb a b ≡ not (ltb b a)
+    outside a b = by-test (ltb b a) (λ t. rw t (lt-leb a b (ltb-true b a t))) (λ t. rw t (le-leb a b (ltb-false b a t)))
+
+    go : (h : Bool) (t n l m : ℕ) → ((h && (leb t i || ltb n l || ltb m n)) || (not h && not (eqb n 0))) ≡ not (cond h (ltb i t && (leb l n && leb n m)) (eqb n 0))
+    go true t n l m = rw (outside t i, outside l n, outside n m) (turn (ltb i t) (ltb n l) (ltb m n))
+    go false t n l m = refl
+
+-- ---- the parts: the bounds of the later ones for all, and part 1 by itself
+agree : (a b : Bool) → (a ≡ true → b ≡ true) → (b ≡ true → a ≡ true) → a ≡ b
+agree true b f g = sym (f refl)
+agree false true f g = g refl
+agree false false f g = refl
+
+-- a test e that tells two bounds of n
+between : (t e : Bool) (n l m : ℕ) → (e ≡ true → (l ≤ n) × (n ≤ m)) → (l ≤ n → n ≤ m → e ≡ true) → t && e ≡ t && (leb l n && leb n m)
+between true e n l m f g =
+    agree e (leb l n && leb n m) (λ p. rw (le-leb l n (f p .0), le-leb n m (f p .1)))
+    (λ p. let (q, r) = both (leb l n) (leb n m) p in g (leb-true l n q) (leb-true n m r))
+between false e n l m f g = refl
+
+-- a test that follows from another beside it says nothing more
+implied : (a b : Bool) → (a ≡ true → b ≡ true) → a ≡ a && b
+implied true b h = sym (h refl)
+implied false b h = refl
+
+module _ (x : Slot) where
+  abbrev key : Key
+  key = x .key
+
+  first-part : partFormed x 0 ≡ partWithin x 0 && leb (sizeAt x 0) (most key 1)
   unfolding lengthFits
-  page-length w = rw (eq-eqb (x .width) 0 w)
+  first-part = go (markAt x 0) (ofPages key) (eqb (key .width) 16) (sizeAt x 0) (ltb 0 (x .total))
+    where
+      go : (h p w : Bool) (n : ℕ) (t : Bool)
+          → cond h (t && cond p (eqb n pageContent) (leb n (cond w 133 134 - 2))) (eqb n 0)
+          ≡ cond h (t && (leb (cond p pageContent 0) n && leb n (cond p pageContent (cond w 133 134 - 0)))) (eqb n 0) && leb n (cond p pageContent (cond w 133 134 - 2))
+      go true p w n false = refl
+      go true true w n true =
+          agree (eqb n pageContent) ((leb pageContent n && leb n pageContent) && leb n pageContent)
+          (λ q. let e = eqb-true n pageContent q in rw (le-leb pageContent n (omega arith), le-leb n pageContent (omega arith)))
+          (λ q. let (a, b) = both (leb pageContent n && leb n pageContent) (leb n pageContent) q in eq-eqb n pageContent (omega (arith, leb-true pageContent n (both (leb pageContent n) (leb n pageContent) a .0), leb-true n pageContent b)))
+      go true false true n true =
+          agree (leb n 131) ((leb 0 n && leb n 133) && leb n 131)
+          (λ q. let e = leb-true n 131 q in rw (le-leb 0 n (omega arith), le-leb n 133 (omega arith), q))
+          (λ q. both (leb 0 n && leb n 133) (leb n 131) q .1)
+      go true false false n true =
+          agree (leb n 132) ((leb 0 n && leb n 134) && leb n 132)
+          (λ q. let e = leb-true n 132 q in rw (le-leb 0 n (omega arith), le-leb n 134 (omega arith), q))
+          (λ q. both (leb 0 n && leb n 134) (leb n 132) q .1)
+      go false p w n t =
+          implied (eqb n 0) (leb n (cond p pageContent (cond w 133 134 - 2))) (λ q. let e = eqb-true n 0 q in le-leb n (cond p pageContent (cond w 133 134 - 2)) (omega arith))
 
-  pub part-length : (m o : ℕ) → (x .width ≡ 0 → ⊥) → m ≡ room (x .width) number → o ≡ n → leb o m ≡ lengthFits x number n
+  later-part : (i : ℕ) → 0 < i → partFormed x i ≡ partWithin x i
   unfolding lengthFits
-  part-length m o w e f = rw (e, f, ne-eqb (x .width) 0 w)
+  later-part i l = rw (ne-eqb (i + 1) 1 (λ e. omega arith)) (go (markAt x i) (ofPages key) (eqb (key .width) 16) (sizeAt x i) (ltb i (x .total)))
+    where
+      go : (h p w : Bool) (n : ℕ) (t : Bool)
+          → cond h (t && cond p (eqb n pageContent) (leb n (cond w 133 134 - 0))) (eqb n 0)
+          ≡ cond h (t && (leb (cond p pageContent 0) n && leb n (cond p pageContent (cond w 133 134 - 0)))) (eqb n 0)
+      go true true w n t = between t (eqb n pageContent) n pageContent pageContent (λ p. let e = eqb-true n pageContent p in (omega arith, omega arith)) (λ a b. eq-eqb n pageContent (omega arith))
+      go true false w n t = between t (leb n (cond w 133 134 - 0)) n 0 (cond w 133 134 - 0) (λ p. (omega arith, leb-true n (cond w 133 134 - 0) p)) (λ a b. le-leb n (cond w 133 134 - 0) b)
+      go false p w n t = refl
 
-pub part-held : (key : Key) (total i n : ℕ) (h fits : Bool) → fits ≡ lengthFits key (i + 1) n → h ≡ true
-    → ltb i total && fits ≡ partFits key total i n h
-part-held key total i n h fits e t = rw (e, t)
-
-pub part-missing : (key : Key) (total i n : ℕ) (h : Bool) → h ≡ false → eqb n 0 ≡ partFits key total i n h
-part-missing key total i n h t = rw t
+  pub parts-told : (a : Bool) (m : ℕ) → a ≡ allBelow mostParts (partWithin x) → m ≡ most key 1
+      → a && leb (sizeAt x 0) m ≡ allBelow mostParts (partFormed x)
+  parts-told a m e f = rw (e, f) (sym (all-but-first 15 (partFormed x) (partWithin x) (leb (sizeAt x 0) (most key 1)) first-part later-part))
 
 -- ---- slots
 pub zero-told : (x : Slot) (a b : Bool) → a ≡ zeroKey (x .key) → b ≡ allBelow mostParts (zeroPart x)
@@ -126,10 +211,16 @@ pub ruleset formedSteps = (
   key-of-message,
   total-of-pages,
   total-of-message,
-  page-length,
-  part-length,
-  part-held,
-  part-missing,
+  fault-from,
+  fault-more,
+  fault-through,
+  fewest-page,
+  fewest-message,
+  most-page,
+  most-message,
+  zero-wrong,
+  part-wrong,
+  parts-told,
   zero-told,
   used-told,
   slot-free,

@@ -1,19 +1,28 @@
 -- Parts of the rules for which the code has a function of its own, over the fields that it takes.
-use Prim.Native.Nat.{ℕ, _+_}
+use Prim.Native.Nat.{ℕ}
 use mathlib.Core.Bool.{Bool, not, cond, _&&_}
 use mathlib.Core.List.{List}
-use lib.Dec.{eqb, ltb}
+use lib.Dec.{eqb, ltb, leb}
 use Rattle.types.specs.declared.Kind.{Kind}
 use Rattle.types.specs.declared.Key.{Key}
-use Rattle.arrival.specs.Keys.{lengthFits}
+use Rattle.arrival.specs.Page.{pageContent}
+use Rattle.arrival.specs.Keys.{ofPages, room}
 use Rattle.types.specs.declared.Slot.{Slot}
 use Rattle.slots.specs.Below.{allBelow}
 use Rattle.slots.specs.Slots.{slotAt}
-use Rattle.formed.specs.Formed.{slotFormed, clash}
+use Rattle.formed.specs.Formed.{markAt, sizeAt, slotFormed, clash}
 
--- of `partFormed`: the part at place i, with its length and its mark
-abbrev pub partFits : Key → ℕ → ℕ → ℕ → Bool → Bool
-partFits key total i n held = cond held (ltb i total && lengthFits key (i + 1) n) (eqb n 0)
+-- of `lengthFits`: the fewest octets of a part, and the most of part `number`
+abbrev pub fewest : Key → ℕ
+fewest key = cond (ofPages key) pageContent 0
+
+abbrev pub most : Key → ℕ → ℕ
+most key number = cond (ofPages key) pageContent (room (key .width) number)
+
+-- of `partFormed`: the part at place i, by the bounds of the parts behind the first
+abbrev pub partWithin : Slot → ℕ → Bool
+partWithin x i =
+    cond (markAt x i) (ltb i (x .total) && (leb (fewest (x .key)) (sizeAt x i) && leb (sizeAt x i) (most (x .key) 2))) (eqb (sizeAt x i) 0)
 
 -- of `slotsFormed`: each slot for itself
 abbrev pub slotsHold : ℕ → Kind → List Slot → Bool

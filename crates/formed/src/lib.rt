@@ -17,11 +17,11 @@ ghost use mathlib.Core.Bool.{cond};
 ghost use Prim.Native.Nat.{_≤_, _<_};
 ghost use lib.ListN.{length};
 ghost use Rattle.arrival.specs.Message.{mostParts};
-ghost use Rattle.arrival.specs.Keys.{messageKeyFormed, pageKeyFormed, keyFormed, totalFits, lengthFits};
+ghost use Rattle.arrival.specs.Keys.{messageKeyFormed, pageKeyFormed, keyFormed, totalFits};
 ghost use Rattle.slots.specs.Below.{allBelow};
 ghost use Rattle.slots.specs.Slots.{slotCount};
 ghost use Rattle.formed.specs.Formed.{zeroKey, zeroPart, allZero, partFormed, heldCount, usedFormed, slotFormed, keysDiffer, usedCount, isRank, ranked, recordFormed};
-ghost use Rattle.formed.specs.Pieces.{partFits, slotsHold, keyDiffers};
+ghost use Rattle.formed.specs.Pieces.{fewest, most, slotsHold, keyDiffers};
 
 // A flag as a number, to count it.
 fn one(flag: bool) -> u8
@@ -67,15 +67,23 @@ fn total_fits(key: Key, total: u8) -> bool
     (2 <= total) & (total <= PARTS as u8)
 }
 
-// Whether part `number` of a series with that key can have n octets.
-fn length_fits(key: Key, number: usize, n: u8) -> bool
-    ensures { λ r. ⌜ r ≡ lengthFits key number n ⌝ }
+// The fewest and the most octets of part `number` of a series with that key.
+fn fewest(key: Key) -> u8
+    ensures { λ r. ⌜ r ≡ fewest key ⌝ }
 {
     if key.width == 0 {
-        return n == PAGE_CONTENT as u8;
+        return PAGE_CONTENT as u8;
     }
-    let most = room(key.width as u32, number);
-    octets::wide(n) <= most
+    0
+}
+
+fn most(key: Key, number: usize) -> u8
+    ensures { λ r. ⌜ r ≡ most key number ⌝ }
+{
+    if key.width == 0 {
+        return PAGE_CONTENT as u8;
+    }
+    room(key.width as u32, number) as u8
 }
 
 // Whether a free slot's key is all zero.
@@ -89,19 +97,21 @@ fn zero_key(key: Key) -> bool
         & (key.identifier.0 == 0)
 }
 
-// Whether no part of the slot is marked or has a length.
+// Whether no part of the slot is marked or has a length. Faults are gathered in an octet here and below, and no test leaves the loop, so that
+// all parts are looked at at once.
 fn zero_parts(x: Slot) -> bool
     ensures { λ r. ⌜ r ≡ allBelow mostParts (zeroPart x) ⌝ }
 {
-    let mut ok = true;
+    let mut bad = 0;
     let mut i = 0;
     while i < PARTS {
         let h = x.held[i];
         let n = x.lengths[i];
-        ok = ok & (!h & (n == 0));
+        let wrong = h | (n != 0);
+        bad = bad | (wrong as u8);
         i = i + 1;
     }
-    ok
+    bad == 0
 }
 
 // Whether all of the slot but its rank is zero.
@@ -113,32 +123,27 @@ fn all_zero(x: Slot) -> bool
     zero_key(key) & (x.total == 0) & none
 }
 
-// Whether the part at place i, of n octets where it is held, can stand in a slot with that key and total.
-fn part_formed(key: Key, total: u8, i: usize, n: u8, held: bool) -> bool
-    requires { ⌜ i < mostParts ⌝ }
-    ensures { λ r. ⌜ r ≡ partFits key total i n held ⌝ }
-{
-    if held {
-        let fits = length_fits(key, i + 1, n);
-        return (i < total as usize) & fits;
-    }
-    n == 0
-}
-
-// Whether each part of a used slot is as it can be.
+// Whether each part of a used slot is as it can be. The bounds of a length depend on the key alone, but for part 1, which is looked at by
+// itself: where it is missing its length is 0, which fits.
 fn parts_formed(x: Slot) -> bool
     ensures { λ r. ⌜ r ≡ allBelow mostParts (partFormed x) ⌝ }
 {
     let key = x.key;
-    let mut ok = true;
+    let low = fewest(key);
+    let high = most(key, 2);
+    let total = x.total;
+    let mut bad = 0;
     let mut i = 0;
     while i < PARTS {
         let h = x.held[i];
         let n = x.lengths[i];
-        ok = ok & part_formed(key, x.total, i, n, h);
+        let out = (total <= i as u8) | (n < low) | (high < n);
+        let wrong = (h & out) | (!h & (n != 0));
+        bad = bad | (wrong as u8);
         i = i + 1;
     }
-    ok
+    let first = x.lengths[0];
+    (bad == 0) & (first <= most(key, 1))
 }
 
 // How many parts the slot holds.

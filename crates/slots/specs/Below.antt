@@ -14,3 +14,8 @@ anyBelow (suc n) f = anyBelow n f || f n
 unfoldable pub countBelow : ℕ → (ℕ → Bool) → ℕ
 countBelow zero f = 0
 countBelow (suc n) f = cond (f n) (suc (countBelow n f)) (countBelow n f)
+
+-- faults gathered in an octet: 0 while there is none
+abbrev pub fault : Bool → ℕ
+fault true = 0
+fault false = 1

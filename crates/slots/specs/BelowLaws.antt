@@ -1,13 +1,15 @@
 -- Laws of the tests over the numbers below n.
 use Prim.Native.Nat.{ℕ, zero, suc, _+_, _≤_, _<_}
 use mathlib.Core.Path.{_≡_, refl, sym, ap, _∙_}
-use mathlib.Core.Bool.{Bool, true, false, cond, _&&_, _||_}
+use mathlib.Core.Bool.{Bool, true, false, not, cond, _&&_, _||_}
 use native.Mathlib.Omega.{arith}
 use native.Mathlib.Numerals.{add-one}
+use lib.Bits.{bitOr}
 use lib.Dec.{eqb, ltb}
-use borrow.Author.Tests.{eq-eqb, ne-eqb, ltb-true, ltb-false, lt-ltb}
+use mir.Val.{boolByte}
+use borrow.Author.Tests.{eq-eqb, ne-eqb, ltb-true, ltb-false, lt-ltb, le-ltb}
 use Rattle.octets.specs.Tests.{clash, both, Same, same, other, same?}
-use Rattle.slots.specs.Below.{allBelow, anyBelow, countBelow}
+use Rattle.slots.specs.Below.{allBelow, anyBelow, countBelow, fault}
 
 -- ---- one number more, as a loop goes
 module _ (f : ℕ → Bool) (i : ℕ) where
@@ -27,7 +29,22 @@ module _ (f : ℕ → Bool) (i : ℕ) where
       go true = omega arith
       go false = omega arith
 
+  pub fault-more : (bad : ℕ) (wrong : Bool) → bad ≡ fault (allBelow i f) → wrong ≡ not (f i)
+      → bitOr bad (boolByte wrong) ≡ fault (allBelow (i + 1) f)
+  unfolding allBelow
+  fault-more bad wrong e h = rw (add-one, e, h) (go (allBelow i f) (f i))
+    where
+      go : (a b : Bool) → bitOr (fault a) (boolByte (not b)) ≡ fault (a && b)
+      go true true = refl
+      go true false = refl
+      go false true = refl
+      go false false = refl
+
 module _ (f : ℕ → Bool) where
+  pub fault-from : 0 ≡ fault (allBelow 0 f)
+  unfolding allBelow
+  fault-from = refl
+
   pub all-from : true ≡ allBelow 0 f
   unfolding allBelow
   all-from = refl
@@ -47,6 +64,13 @@ module _ (f : ℕ → Bool) (i n : ℕ) (low : i ≤ n) (high : n ≤ i) where
 
   pub all-through : (ok : Bool) → ok ≡ allBelow i f → ok ≡ allBelow n f
   all-through ok e = rw (← end) e
+
+  pub fault-through : (bad : ℕ) → bad ≡ fault (allBelow i f) → eqb bad 0 ≡ allBelow n f
+  fault-through bad e = rw (← end, e) (go (allBelow i f))
+    where
+      go : (b : Bool) → eqb (fault b) 0 ≡ b
+      go true = refl
+      go false = refl
 
   pub any-through : (any : Bool) → any ≡ anyBelow i f → any ≡ anyBelow n f
   any-through any e = rw (← end) e
@@ -188,3 +212,35 @@ count-below (suc n) t l = go (count-below n t) (ltb n t) refl
         let p : n < t = ltb-true n t e in
         ap suc (count-full n (λ i. ltb i t) (λ i m. lt-ltb i t (omega arith))) ∙ omega arith
     go ih false e = let p : t ≤ n = ltb-false n t e in ih p
+
+-- ---- two tests that come to one another
+alone : (b : Bool) → b && true ≡ b
+alone true = refl
+alone false = refl
+
+-- the numbers below n that are below t too
+pub all-up-to : (n t : ℕ) (f : ℕ → Bool) → t ≤ n → allBelow n (λ i. not (ltb i t) || f i) ≡ allBelow t f
+unfolding allBelow
+all-up-to zero t f l = let z : t ≡ 0 = omega arith in rw z
+all-up-to (suc n) t f l = go (all-up-to n t f) (same? t (suc n))
+  where
+    low : (i : ℕ) → i < t → (not (ltb i t) || f i) ≡ f i
+    low i m = rw (lt-ltb i t m)
+
+    go : (t ≤ n → allBelow n (λ i. not (ltb i t) || f i) ≡ allBelow t f) → Same t (suc n)
+        → allBelow n (λ i. not (ltb i t) || f i) && (not (ltb n t) || f n) ≡ allBelow t f
+    go ih (same p q) = rw (all-same n (λ i. not (ltb i t) || f i) f (λ i m. low i (omega arith)), low n (omega arith)) (rw q)
+    go ih (other p q) = rw (ih (omega arith), le-ltb n t (omega arith)) (alone (allBelow t f))
+
+-- tests that differ at 0 alone, where the first asks b as well
+pub all-but-first : (n : ℕ) (f g : ℕ → Bool) (b : Bool) → f 0 ≡ g 0 && b → ((i : ℕ) → 0 < i → f i ≡ g i)
+    → allBelow (suc n) f ≡ allBelow (suc n) g && b
+unfolding allBelow
+all-but-first zero f g b z h = z
+all-but-first (suc n) f g b z h = rw (all-but-first n f g b z h, h (suc n) (omega arith)) (swap (allBelow (suc n) g) (g (suc n)) b)
+  where
+    swap : (a c b : Bool) → (a && b) && c ≡ (a && c) && b
+    swap true true b = alone b
+    swap true false true = refl
+    swap true false false = refl
+    swap false c b = refl

@@ -1,50 +1,22 @@
--- `zero_parts` meets its contract: the flag is the test of the parts before i, and behind the last part of all of them. Assumes nothing.
+-- `zero_parts` meets its contract: no fault was gathered as long as the test holds of the parts before i, and behind the last part of all of
+-- them. Assumes nothing.
 use Prim.Native.Nat.{_≤_, _-_}
 use mathlib.Core.Path.{_≡_}
 use Rattle.arrival.specs.Message.{mostParts}
-use Rattle.slots.specs.Below.{allBelow}
+use Rattle.slots.specs.Below.{allBelow, fault}
 use Rattle.formed.specs.Formed.{zeroPart}
 use Rattle.formed.proofs.Steps.{formedSteps}
 use Rattle.formed.proofs.zero_parts.Statement.{statement}
 use Rattle.formed.proofs.zero_parts.Tie as tie
 
 abbrev Inv-loop : tie.InvT-loop
-Inv-loop x ok₀ i₀ ok i = (i ≤ mostParts) × (ok ≡ allBelow i (zeroPart x))
+Inv-loop x bad₀ i₀ bad i = (i ≤ mostParts) × (bad ≡ fault (allBelow i (zeroPart x)))
 
 abbrev μ-loop : tie.MeasureT-loop
-μ-loop x ok₀ i₀ ok i = mostParts - i
-
-loop-holds : tie.Need-loop-holds Inv-loop μ-loop
-loop-holds c = search formedSteps
-
-element-copy-out-h : tie.Need-element-copy-out-h Inv-loop μ-loop
-element-copy-out-h c = search formedSteps
-
-element-copy-out-n : tie.Need-element-copy-out-n Inv-loop μ-loop
-element-copy-out-n c = search formedSteps
-
-add-i : tie.Need-add-i Inv-loop μ-loop
-add-i c = search formedSteps
-
-loop-less : tie.Need-loop-less Inv-loop μ-loop
-loop-less c = search formedSteps
-
-loop-again : tie.Need-loop-again Inv-loop μ-loop
-loop-again c = search formedSteps
-
-returns : tie.Need-returns Inv-loop μ-loop
-returns c = search formedSteps
+μ-loop x bad₀ i₀ bad i = mostParts - i
 
 pub zero-parts-spec : {M : Type 1} → statement M
 zero-parts-spec =
     tie.close
-    (tie.spec
-    Inv-loop
-    μ-loop
-    loop-holds
-    element-copy-out-h
-    element-copy-out-n
-    add-i
-    loop-less
-    loop-again
-    returns)
+    (tie.spec Inv-loop μ-loop (λ c. search formedSteps) (λ c. search formedSteps) (λ c. search formedSteps) (λ c. search formedSteps)
+    (λ c. search formedSteps) (λ c. search formedSteps) (λ c. search formedSteps) (λ c. search formedSteps))
