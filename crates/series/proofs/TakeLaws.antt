@@ -43,7 +43,7 @@ found-at p xs i o (hit j l e f) q = let m : j ≡ i = cc in rw (← m) (l, e)
 found-at p xs i o (miss f) q = let z : _≡_ {A = ℕ} 0 1 = cc in absurd (omega arith)
 
 module _ (r : Record) (cells : List ℕ) (w : Sound slotCount r cells) where
-  ranks-low : (j : ℕ) → slotAt (r .slots) j .rank < 255
+  pub ranks-low : (j : ℕ) → slotAt (r .slots) j .rank < 255
   ranks-low j = go (ltb j slotCount) refl
     where
       go : (b : Bool) → ltb j slotCount ≡ b → slotAt (r .slots) j .rank < 255
@@ -58,10 +58,9 @@ module _ (r : Record) (cells : List ℕ) (w : Sound slotCount r cells) where
           rw List·getD-eq-default (omega arith)
 
   module _ (key : Key) (total number : ℕ) (octets : List ℕ) (adm : Admitted (r .kind) key total number octets) where
-    pub room-at : (i : ℕ) → i < slotCount → Room r i number octets cells
+    pub room-at : (i : ℕ) → i < slotCount → Room i number octets cells
     room-at i l = record {
       place = (l, adm .low, omega (arith, adm .high, total-bounds key total (adm .totalFits)));
-      ranks = ranks-low;
       short = short key number (length octets) (adm .lengthFits);
       size = w .size;
     }

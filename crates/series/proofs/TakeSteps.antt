@@ -1,20 +1,22 @@
 -- What the proofs of taking search: one law for each return and call, over plain variables.
-use Prim.Native.Nat.{ℕ, _≤_, _<_}
+use Prim.Native.Nat.{ℕ, _+_, _≤_, _<_}
 use mathlib.Core.Path.{_≡_, refl, sym, ap, _∙_}
-use mathlib.Core.Bool.{Bool, true, false, not, cond, _||_}
+use mathlib.Core.Bool.{Bool, true, false, not, cond, _&&_, _||_}
 use mathlib.Core.List.{List}
 use mathlib.Core.Option.{Option, none, some}
 use native.Mathlib.Omega.{arith}
-use lib.ListN.{length, drop}
-use lib.Dec.{eqb}
+use lib.ListN.{length, getD, drop}
+use lib.Dec.{eqb, ltb}
 use borrow.Author.Needs.{needs}
 use borrow.Author.Tests.{eq-eqb, ne-eqb, eqb-true}
 use Rattle.octets.specs.Octets.{placed, sameOctets}
 use Rattle.types.specs.declared.Kind.{Kind}
 use Rattle.types.specs.declared.Refusal.{Refusal}
-use Rattle.types.specs.Refusals as refusal
+use Rattle.types.specs.declared.Refusal.the-variants.{BufferOrRecord}
 use Rattle.packet.specs.Packets.{mostOctets}
 use Rattle.types.specs.declared.Key.{Key}
+use Rattle.types.specs.declared.Answer as response
+use Rattle.types.specs.declared.Answer.the-variants as answer
 use Rattle.types.specs.declared.Arrival.{Arrival}
 use Rattle.types.specs.declared.Arrival.the-variants as arrival
 use Rattle.arrival.specs.Arrivals.{toldArrival}
@@ -28,26 +30,37 @@ use Rattle.types.specs.declared.Slot.{Slot}
 use Rattle.types.specs.declared.Record.{Record}
 use Rattle.joined.specs.declared.Size.{Size}
 use Rattle.joined.specs.declared.Size.the-variants as size
-use Rattle.slots.specs.declared.find.Found.{Found}
-use Rattle.slots.specs.declared.find.Found.the-variants.{At, Nothing}
-use Rattle.slots.specs.declared.find.Opening.{Opening}
+use Rattle.slots.specs.declared.find.Seat.{Seat}
 use Rattle.series.specs.declared.take.Step as code
+use Rattle.series.specs.declared.take.Change.{Change}
 use Rattle.series.specs.declared.take.Step.the-variants.{Refuses, Repeats, Keeps, Finishes}
-use Rattle.slots.specs.BelowLaws.{all-from, all-more, all-through}
-use Rattle.slots.specs.Found.{toldFound, found-inside, openingIn, newPlace, slotIn, slot-in, withPartIn, with-part-in}
-use Rattle.slots.specs.Slots.{slotCount, slotAt, bears, isFree, find, opened, heldAt, lengthAt, withPart, toFront, freed, withSlots}
-use Rattle.slots.specs.Order.{frontIn, freedIn, front-in, freed-in}
+use Rattle.slots.specs.Below.{allBelow}
+use Rattle.slots.specs.BelowLaws.{fault-from, fault-more, fault-through, all-up-to}
+use Rattle.slots.specs.Found.{newSeatIn, seatOf, seat-found, seat-not-found, withPartIn, with-part-in}
+use Rattle.slots.specs.Slots.{slotCount, slotAt, isFree, find, opened, freeSlot, heldAt, lengthAt, withPart, toFront, freed, withSlots}
+use Rattle.slots.specs.Order.{replaced, front-in, freed-in}
 use Rattle.formed.specs.Formed.{recordFormed}
 use Rattle.series.specs.Cells.{cellsSize, cellAt, cellPart, joinedOctets}
 use Rattle.series.specs.Handing.{Short, cellStart, seriesOctets}
-use Rattle.series.specs.Taking.{State, Answer, After, kept, heldAlready, packet, refusedBy, state, after, handOut, completes, Step, refuses, repeats, keeps, finishes, stepNew, step, acted, takePart, takeMessage, takePage}
+use Rattle.series.specs.Taking.{State, Answer, After, toldAnswer, kept, packet, refusedBy, state, after, handOut, completes, Step, refuses, repeats, keeps, finishes, stepNew, step, acted, takePart, takeMessage, takePage}
 use Rattle.series.specs.KeepLaws.{Sound}
-use Rattle.series.specs.Deciding.{allWith, toldStep, stepAt, keyOf, answerOf, Room, Whole, Fitting, takenWhereFit}
+use Rattle.series.specs.Deciding.{allWith, hasWith, toldStep, stepAt, keyOf, answerOf, Room, Whole, fronted, emptied, changed, Holds, Seated, Makes, Fitting, takenWhereFit}
 use Rattle.series.proofs.CellLaws.{cell-part, joined-pieces, short-at}
 use Rattle.series.proofs.TakeLaws as law
 use Rattle.series.proofs.TakeLaws.{message-fitting, page-fitting}
 
 -- ---- deciding
+module _ (held : List Bool) (t number : ℕ) where
+  pub part-lacks : (i : ℕ) → (ltb i t && not (eqb (i + 1) number || getD held i false)) ≡ not (hasWith held t number i)
+  part-lacks i = go (ltb i t) (eqb (i + 1) number || getD held i false)
+    where
+      go : (a b : Bool) → (a && not b) ≡ not (not a || b)
+      go true b = refl
+      go false b = refl
+
+  pub none-lacks : (b : Bool) → t ≤ mostParts → b ≡ allBelow mostParts (hasWith held t number) → b ≡ allWith held t number
+  none-lacks b l e = e ∙ all-up-to mostParts t (λ i. eqb (i + 1) number || getD held i false) l
+
 module _ (cells : List ℕ) (total number : ℕ) (octets : List ℕ) (i : ℕ) (x : Slot) where
   pub other-total : (x .total ≡ total → ⊥) → refuses 7 ≡ stepAt cells total number octets i x
   other-total ne = rw (ne-eqb (x .total) total ne)
@@ -86,20 +99,22 @@ module _ (cells : List ℕ) (total number : ℕ) (octets : List ℕ) (i : ℕ) (
       go false e h = let z : _≡_ {A = ℕ} 0 1 = cc in absurd (omega arith)
 
 -- ---- acting
-module _ (r r′ : Record) (i : ℕ) where
-  pub part-kept : (number : ℕ) (octets cells : List ℕ) (n : ℕ) (x y : Slot) → Room r i number octets cells → y ≡ withPartIn x number n
-      → r′ ≡ frontIn slotCount r i y → r′ ≡ withSlots r (toFront (r .slots) i (withPart x number n))
-  part-kept number octets cells n x y room e h =
-      let w : y ≡ withPart x number n = e ∙ with-part-in x number n (room .place .1) (room .place .2) in
-      rw (← w) (h ∙ front-in slotCount r i (room .place .0) y (room .ranks))
+pub part-kept : (i number : ℕ) (octets cells : List ℕ) (a : response.Answer) (n : ℕ) (x y : Slot) (c : Change) → Room i number octets cells
+    → y ≡ withPartIn x number n → c ≡ fronted a i y → c ≡ fronted a i (withPart x number n)
+part-kept i number octets cells a n x y c room e h =
+    h ∙ ap (fronted a i) (e ∙ with-part-in x number n (room .place .1) (room .place .2))
 
-  pub comes-front : (x : Slot) → (i < slotCount) × ((j : ℕ) → slotAt (r .slots) j .rank < 255) → r′ ≡ frontIn slotCount r i x
-      → r′ ≡ withSlots r (toFront (r .slots) i x)
-  comes-front x (l, low) h = h ∙ front-in slotCount r i l x low
+pub slot-emptied : (a : response.Answer) (i : ℕ) (x : Slot) → x ≡ freeSlot
+    → record { answer = a; moves = true; front = false; slot = i; entry = x } ≡ emptied a i
+slot-emptied a i x e = rw e
 
-  pub comes-free : (number : ℕ) (octets cells : List ℕ) → Room r i number octets cells → r′ ≡ freedIn slotCount r i
-      → r′ ≡ withSlots r (freed (r .slots) i)
-  comes-free number octets cells room h = h ∙ freed-in slotCount r i (room .place .0)
+-- what becomes of a record
+module _ (r : Record) (i : ℕ) (inside : i < slotCount) (c : Change) (a : response.Answer) where
+  comes-front : (x : Slot) → ((j : ℕ) → slotAt (r .slots) j .rank < 255) → c ≡ fronted a i x → changed r c ≡ withSlots r (toFront (r .slots) i x)
+  comes-front x low e = rw e (front-in slotCount r i inside x low)
+
+  comes-free : c ≡ emptied a i → changed r c ≡ withSlots r (freed (r .slots) i)
+  comes-free e = rw e (freed-in slotCount r i inside)
 
 module _ (z : Size) where
   pub answer-packet : (n : ℕ) → z ≡ size.Octets n → packet n ≡ answerOf (toldSize z)
@@ -110,54 +125,42 @@ module _ (z : Size) where
 
 -- a single message or page, for which the output has room
 module _ (k : Kind) (paged : Bool) (octets output : List ℕ) (fits : length octets ≤ length output) where
-  pub single-answer : (z : Size) (a : Answer) → toldSize z ≡ lengthIn (packetFor k paged octets (length output)) → a ≡ answerOf (toldSize z)
-      → a ≡ answerOf (lengthIn (packetIn k paged 1 octets))
-  single-answer z a e h = rw (← packet-for k paged octets (length output) fits, ← e) h
+  pub single-answer : (z : Size) (a b : response.Answer) → toldSize z ≡ lengthIn (packetFor k paged octets (length output)) → a ≡ b
+      → toldAnswer b ≡ answerOf (toldSize z) → toldAnswer a ≡ answerOf (lengthIn (packetIn k paged 1 octets))
+  single-answer z a b e q h = rw (← packet-for k paged octets (length output) fits, ← e, q) h
 
   pub single-output : (o : List ℕ) → o ≡ outputWith (packetFor k paged octets (length output)) output
       → o ≡ outputWith (packetIn k paged 1 octets) output
   single-output o e = rw (← packet-for k paged octets (length output) fits) e
 
--- slot i of a record, as the code copies it
-pub slot-copied : (r : Record) (i number : ℕ) (octets cells : List ℕ) (x : Slot) → Room r i number octets cells
-    → x ≡ slotIn slotCount (r .slots) i → x ≡ slotAt (r .slots) i
-slot-copied r i number octets cells x room e = e ∙ slot-in slotCount (r .slots) i (room .place .0)
+-- the parts of a slot x with the one that arrives, where t is the total as a length
+pub whole-short : (x : Slot) (i number : ℕ) (octets cells output : List ℕ) → Whole x i number octets cells output → Short (x .lengths)
+whole-short x i number octets cells output w = w .lengths
 
--- the parts of a slot y, which the code has copied as x, with the one that arrives
-module _ (y x : Slot) (copied : x ≡ y) (i number : ℕ) (octets cells output : List ℕ) where
-  pub whole-short : Whole y i number octets cells output → Short (x .lengths)
-  whole-short w = rw copied (w .lengths)
+module _ (x : Slot) (i number : ℕ) (octets cells output : List ℕ) (t : ℕ) (is : t ≡ x .total) where
+  same-octets : seriesOctets cells (x .lengths) t i number octets ≡ joinedOctets cells x i number octets
+  same-octets = rw is (joined-pieces cells x i number octets)
 
-  pub whole-most : Whole y i number octets cells output → x .total ≤ mostParts
-  whole-most w = rw copied (w .most)
+  pub whole-some : Whole x i number octets cells output → 0 < t
+  whole-some w = rw is (w .some)
 
-  module _ (t : ℕ) (is : t ≡ x .total) where
-    same-octets : seriesOctets cells (x .lengths) t i number octets ≡ joinedOctets cells y i number octets
-    same-octets = rw (is, copied) (joined-pieces cells y i number octets)
+  pub whole-total : Whole x i number octets cells output → t ≤ mostParts
+  whole-total w = rw is (w .most)
 
-    pub whole-some : Whole y i number octets cells output → 0 < t
-    whole-some w = rw (is, copied) (w .some)
+  pub whole-fits : Whole x i number octets cells output → length (seriesOctets cells (x .lengths) t i number octets) ≤ length output
+  whole-fits w = rw same-octets (w .joined)
 
-    pub whole-total : Whole y i number octets cells output → t ≤ mostParts
-    whole-total w = rw (is, copied) (w .most)
+  module _ (k : Kind) (paged : Bool) where
+    same-packet : packetIn k paged t (seriesOctets cells (x .lengths) t i number octets) ≡ packetIn k paged (x .total) (joinedOctets cells x i number octets)
+    same-packet = rw (same-octets, is)
 
-    pub whole-fits : Whole y i number octets cells output → length (seriesOctets cells (x .lengths) t i number octets) ≤ length output
-    whole-fits w = rw same-octets (w .joined)
+    pub whole-answer : (z : Size) (a : Answer) → toldSize z ≡ lengthIn (packetIn k paged t (seriesOctets cells (x .lengths) t i number octets))
+        → a ≡ answerOf (toldSize z) → a ≡ answerOf (lengthIn (packetIn k paged (x .total) (joinedOctets cells x i number octets)))
+    whole-answer z a e h = rw (← same-packet, ← e) h
 
-    module _ (k : Kind) (paged : Bool) where
-      abbrev joint : Option (List ℕ)
-      joint = packetIn k paged t (seriesOctets cells (x .lengths) t i number octets)
-
-      same-packet : joint ≡ packetIn k paged (y .total) (joinedOctets cells y i number octets)
-      same-packet = rw (same-octets, is, copied)
-
-      pub whole-answer : (z : Size) (a : Answer) → toldSize z ≡ lengthIn (packetIn k paged t (seriesOctets cells (x .lengths) t i number octets))
-          → a ≡ answerOf (toldSize z) → a ≡ answerOf (lengthIn (packetIn k paged (y .total) (joinedOctets cells y i number octets)))
-      whole-answer z a e h = rw (← same-packet, ← e) h
-
-      pub whole-output : (o : List ℕ) → o ≡ outputWith (packetIn k paged t (seriesOctets cells (x .lengths) t i number octets)) output
-          → o ≡ outputWith (packetIn k paged (y .total) (joinedOctets cells y i number octets)) output
-      whole-output o e = rw (← same-packet) e
+    pub whole-output : (o : List ℕ) → o ≡ outputWith (packetIn k paged t (seriesOctets cells (x .lengths) t i number octets)) output
+        → o ≡ outputWith (packetIn k paged (x .total) (joinedOctets cells x i number octets)) output
+    whole-output o e = rw (← same-packet) e
 
 -- an answer and an output that tell of a packet are what handing out comes to
 handed-out : (s : State) (r : Record) (a : Answer) (o : List ℕ) (p : Option (List ℕ)) → a ≡ answerOf (lengthIn p) → o ≡ outputWith p (s .output)
@@ -178,69 +181,66 @@ acted-by s key total number octets (keeps i d x) = refl
 acted-by s key total number octets (finishes i) = rw (of-key (ofPages key))
 
 -- a part of the series x in slot i, where step z is due
-module _ (r : Record) (cells output : List ℕ) (paged : Bool) (total number : ℕ) (octets : List ℕ) (i : ℕ) (x : Slot)
-    (copied : x ≡ slotIn slotCount (r .slots) i) (room : Room r i number octets cells) (z : code.Step) (told : toldStep i x z ≡ stepAt cells total number octets i x) (a : Answer) (r′ : Record) where
-  abbrev due : After
-  due = acted slotCount (state r cells output) (keyOf paged) total number octets (stepAt cells total number octets i (slotAt (r .slots) i))
+module _ (k : Kind) (cells output : List ℕ) (paged : Bool) (total number : ℕ) (octets : List ℕ) (i : ℕ) (x : Slot) (room : Room i number octets cells)
+    (z : code.Step) (told : toldStep i x z ≡ stepAt cells total number octets i x) (c : Change) where
+  abbrev due : Record → After
+  due r = acted slotCount (state r cells output) (keyOf paged) total number octets (stepAt cells total number octets i x)
 
-  here : x ≡ slotAt (r .slots) i
-  here = copied ∙ slot-in slotCount (r .slots) i (room .place .0)
+  pub acts-refuses : (q : Refusal) → z ≡ Refuses q → (c .answer ≡ answer.Refused q) × (c .moves ≡ false) → Makes (λ r. Holds r k i x) c cells output due
+  acts-refuses q e (h, m) r holds = rw (← told, e, h, m)
 
-  pub acts-refuses : (q : Refusal) → z ≡ Refuses q → a ≡ refusedBy (refusal.refusalNumber q) → r′ ≡ r → after a r′ cells output ≡ due
-  acts-refuses q e h f = rw (← here, ← told, e, h, f)
+  pub acts-repeats : z ≡ Repeats → c ≡ fronted (answer.HeldAlready i) i x → Makes (λ r. Holds r k i x) c cells output due
+  acts-repeats e h r holds =
+      rw (← told, e, comes-front r i (room .place .0) c (answer.HeldAlready i) x (holds .ranks) h, h, holds .entry)
 
-  pub acts-repeats : z ≡ Repeats → a ≡ heldAlready i → r′ ≡ withSlots r (toFront (r .slots) i x) → after a r′ cells output ≡ due
-  acts-repeats e h f = rw (h, f, ← here, ← told, e, here)
-
-  pub acts-keeps : (cells′ : List ℕ) → z ≡ Keeps → a ≡ kept i false → r′ ≡ withSlots r (toFront (r .slots) i (withPart x number (length octets)))
-      → cells′ ≡ placed cells (cellAt i number) octets → after a r′ cells′ output ≡ due
-  acts-keeps cells′ e h f g = rw (← here, ← told, e, h, f, g)
+  pub acts-keeps : (cells′ : List ℕ) → z ≡ Keeps → c ≡ fronted (answer.Kept i false) i (withPart x number (length octets))
+      → cells′ ≡ placed cells (cellAt i number) octets → Makes (λ r. Holds r k i x) c cells′ output due
+  acts-keeps cells′ e h g r holds =
+      rw (← told, e, comes-front r i (room .place .0) c (answer.Kept i false) (withPart x number (length octets)) (holds .ranks) h, h, g)
 
   pub acts-finishes : (o : List ℕ) → z ≡ Finishes
-      → a ≡ answerOf (lengthIn (packetIn (r .kind) (paged) (slotAt (r .slots) i .total) (joinedOctets cells (slotAt (r .slots) i) i number octets)))
-      → r′ ≡ withSlots r (freed (r .slots) i)
-      → o ≡ outputWith (packetIn (r .kind) (paged) (slotAt (r .slots) i .total) (joinedOctets cells (slotAt (r .slots) i) i number octets)) output
-      → after a r′ cells o ≡ due
-  acts-finishes o e h f g =
+      → toldAnswer (c .answer) ≡ answerOf (lengthIn (packetIn k paged (x .total) (joinedOctets cells x i number octets))) → c ≡ emptied (c .answer) i
+      → o ≡ outputWith (packetIn k paged (x .total) (joinedOctets cells x i number octets)) output → Makes (λ r. Holds r k i x) c cells o due
+  acts-finishes o e h f g r holds =
       let t : x .total ≡ total = finish-total cells total number octets i x (rw e at told) in
-      rw (← here, ← told, e, f, ← t, here, of-key paged)
-      (handed-out (state r cells output) (withSlots r (freed (r .slots) i)) a o (packetIn (r .kind) (paged) (slotAt (r .slots) i .total) (joinedOctets cells (slotAt (r .slots) i) i number octets)) h g)
+      rw (← told, e, comes-free r i (room .place .0) c (c .answer) f, ← t, holds .entry, of-key paged)
+      (handed-out (state r cells output) (withSlots r (freed (r .slots) i)) (toldAnswer (c .answer)) o (packetIn (r .kind) paged (x .total) (joinedOctets cells x i number octets)) (rw (holds .kind) h) (rw (holds .kind) g))
 
 -- ---- a part
-module _ (r : Record) (cells output : List ℕ) (key : Key) (total number : ℕ) (octets : List ℕ) (f : Found)
-    (told : toldFound f ≡ find (bears key) (r .slots)) where
-  pub part-more : (i : ℕ) (a : After) → f ≡ At i
-      → a ≡ acted slotCount (state r cells output) (keyOf (ofPages key)) total number octets (stepAt cells total number octets i (slotAt (r .slots) i))
-      → a ≡ takePart slotCount (state r cells output) key total number octets
-  unfolding takePart step
-  part-more i a e h =
-      rw (← told, e) (h ∙ acted-by (state r cells output) key total number octets (stepAt cells total number octets i (slotAt (r .slots) i)))
+module _ (k : Kind) (key : Key) (o : Seat) (x : Slot) (cells output : List ℕ) (total number : ℕ) (octets : List ℕ) (c : Change) (cells′ : List ℕ) where
+  abbrev partDue : Record → After
+  partDue r = takePart slotCount (state r cells output) key total number octets
 
-  opens-at : (q : Option ℕ) → let o : Opening = openingIn slotCount (r .slots) q in
-      after (kept (o .slot) (o .displaced)) (withSlots r (toFront (r .slots) (o .slot) (withPart (opened key total) number (length octets))))
-      (placed cells (cellAt (o .slot) number) octets) output
+  pub part-more : (i : ℕ) (output′ : List ℕ) → o .held ≡ true → i ≡ o .slot
+      → Makes (λ r. Holds r k i x) c cells′ output′ (λ r. acted slotCount (state r cells output) (keyOf (ofPages key)) total number octets (stepAt cells total number octets i x))
+      → Makes (λ r. Seated r k key o x) c cells′ output′ partDue
+  unfolding takePart step
+  part-more i output′ h is makes r seated =
+      rw (seat-found slotCount (r .slots) key o (seated .seat) h, seated .holds .entry)
+      (makes r (rw is (seated .holds)) ∙ rw is (acted-by (state r cells output) key total number octets (stepAt cells total number octets (o .slot) x)))
+
+  opens-at : (r : Record) (q : Option ℕ) → let p : Seat = newSeatIn slotCount (r .slots) q in
+      after (kept (p .slot) (p .displaced)) (withSlots r (toFront (r .slots) (p .slot) (withPart (opened key total) number (length octets))))
+      (placed cells (cellAt (p .slot) number) octets) output
       ≡ acted slotCount (state r cells output) key total number octets (stepNew slotCount (state r cells output) key total number octets q)
-  opens-at (some i) = refl
-  opens-at none = refl
+  opens-at r (some i) = refl
+  opens-at r none = refl
 
-  pub part-opens : (o : Opening) (x : Slot) (a : Answer) (r′ : Record) (cells′ : List ℕ) → f ≡ Nothing → o ≡ newPlace slotCount (r .slots)
-      → x ≡ opened key total → a ≡ kept (o .slot) (o .displaced)
-      → r′ ≡ withSlots r (toFront (r .slots) (o .slot) (withPart x number (length octets)))
-      → cells′ ≡ placed cells (cellAt (o .slot) number) octets
-      → after a r′ cells′ output ≡ takePart slotCount (state r cells output) key total number octets
+  pub part-opens : (i : ℕ) (y : Slot) → o .held ≡ false → i ≡ o .slot → i < slotCount → y ≡ opened key total
+      → c ≡ fronted (answer.Kept i (o .displaced)) i (withPart y number (length octets)) → cells′ ≡ placed cells (cellAt i number) octets
+      → Makes (λ r. Seated r k key o x) c cells′ output partDue
   unfolding takePart step
-  part-opens o x a r′ cells′ e p q h f g = rw (← told, e, h, f, g, q, p) (opens-at (find isFree (r .slots)))
+  part-opens i y h is l e f g r seated =
+      let (none-found, new) = seat-not-found slotCount (r .slots) key o (seated .seat) h in
+      rw (comes-front r i l c (answer.Kept i (o .displaced)) (withPart y number (length octets)) (seated .holds .ranks) f, f, g, e, is, none-found)
+      (rw new (opens-at r (find isFree (r .slots))))
 
-  module _ (w : Sound slotCount r cells) (adm : Admitted (r .kind) key total number octets) where
-    pub more-room : (i : ℕ) → f ≡ At i → Room r i number octets cells
-    more-room i e = law.room-at r cells w key total number octets adm i (law.found-inside r cells w key total number octets adm i (rw e at (sym told)))
-
-    pub more-whole : (i : ℕ) → f ≡ At i → length output ≡ mostOctets → Whole (slotAt (r .slots) i) i number octets cells output
-    more-whole i e size = law.whole-at r cells w key total number octets adm i (rw e at (sym told)) output size
-
-pub new-room : (r : Record) (cells : List ℕ) (key : Key) (total number : ℕ) (octets : List ℕ) (o : Opening) → Sound slotCount r cells
-    → Admitted (r .kind) key total number octets → (o ≡ newPlace slotCount (r .slots)) × (o .slot < slotCount) → Room r (o .slot) number octets cells
-new-room r cells key total number octets o w adm l = law.room-at r cells w key total number octets adm (o .slot) (l .1)
+  -- of the record that the code has
+  pub part-done : (r : Record) (output′ : List ℕ) → Makes (λ r. Seated r k key o x) c cells′ output′ partDue → r .kind ≡ k
+      → o ≡ seatOf slotCount (r .slots) key → slotAt (r .slots) (o .slot) ≡ x → Sound slotCount r cells
+      → after (toldAnswer (c .answer)) (changed r c) cells′ output′ ≡ partDue r
+  part-done r output′ makes kind seat entry w =
+      makes r (record { seat = seat; holds = record { kind = kind; entry = entry; ranks = law.ranks-low r cells w } })
 
 -- ---- what reading gave
 pub unfit-told : (r : Record) (cells out : ℕ) (b : Bool) → b ≡ recordFormed slotCount r
@@ -260,23 +260,44 @@ module _ (r : Record) (cells output : List ℕ) (b : Bool)
     abbrev took : After
     took = takenWhereFit slotCount (state r cells output) paged octets (toldArrival z)
 
-    module _ (a : Answer) (r′ : Record) where
-      pub takes-unfit : b ≡ true → a ≡ refusedBy 1 → r′ ≡ r → after a r′ cells output ≡ took
-      takes-unfit e h f = rw (← told, e, h, f)
+    pub takes-unfit : (a : response.Answer) (r′ : Record) → b ≡ true → (a ≡ answer.Refused BufferOrRecord) × (r′ ≡ r) → after (toldAnswer a) r′ cells output ≡ took
+    takes-unfit a r′ e (h, f) = rw (← told, e, h, f)
 
-      pub takes-refused : (q : Refusal) → b ≡ false → z ≡ arrival.Refused q → a ≡ refusedBy (refusal.refusalNumber q) → r′ ≡ r
-          → after a r′ cells output ≡ took
-      takes-refused q fit e h f = rw (← told, fit, e, h, f)
+    -- with these cells and this output the change comes to what is due of the record
+    abbrev Done : Change → List ℕ → List ℕ → Type 0
+    Done c cells′ o = after (toldAnswer (c .answer)) (changed r c) cells′ o ≡ took
 
-    module _ (fit : b ≡ false) (start : ℕ) (own : List ℕ) (is : own ≡ drop start octets) where
-      pub takes-single : (a : Answer) (r′ : Record) (o : List ℕ) → z ≡ arrival.Single start
-          → a ≡ answerOf (lengthIn (packetIn (r .kind) paged 1 own)) → r′ ≡ r → o ≡ outputWith (packetIn (r .kind) paged 1 own) output
-          → after a r′ cells o ≡ took
-      takes-single a r′ o e h f g = rw (← told, fit, e, ← is, f) (handed-out (state r cells output) r a o (packetIn (r .kind) paged 1 own) h g)
+    -- what the arm of a part relies on
+    module _ (fit : b ≡ false) (start : ℕ) (own : List ℕ) (is : own ≡ drop start octets) (fits : Fitting (r .kind) octets z) (key : Key) (total number : ℕ)
+        (e : z ≡ arrival.Part key total number start) where
+      admitted : Admitted (r .kind) key total number own
+      admitted = rw is (rw e at fits)
 
-      pub takes-part : (key : Key) (total number : ℕ) (a : After) → z ≡ arrival.Part key total number start
-          → a ≡ takePart slotCount (state r cells output) key total number own → a ≡ took
-      takes-part key total number a e h = rw (← told, fit, e, ← is) h
+      sound : Sound slotCount r cells
+      sound = fit-sound fit
+
+      pub seat-room : (o : Seat) → o .slot < slotCount → Room (o .slot) number own cells
+      seat-room o l = law.room-at r cells sound key total number own admitted (o .slot) l
+
+      pub seat-whole : (o : Seat) → o ≡ seatOf slotCount (r .slots) key → o .held ≡ true
+          → Whole (slotAt (r .slots) (o .slot)) (o .slot) number own cells output
+      seat-whole o seat h =
+          law.whole-at r cells sound key total number own admitted (o .slot) (seat-found slotCount (r .slots) key o seat h) output (fit-output fit)
+
+    module _ (fit : b ≡ false) (c : Change) where
+      pub takes-refused : (q : Refusal) → z ≡ arrival.Refused q → (c .answer ≡ answer.Refused q) × (c .moves ≡ false) → Done c cells output
+      takes-refused q e (h, m) = rw (← told, fit, e, h, m)
+
+      module _ (start : ℕ) (own : List ℕ) (is : own ≡ drop start octets) where
+        pub takes-single : (o : List ℕ) → z ≡ arrival.Single start
+            → (toldAnswer (c .answer) ≡ answerOf (lengthIn (packetIn (r .kind) paged 1 own))) × (c .moves ≡ false)
+            → o ≡ outputWith (packetIn (r .kind) paged 1 own) output → Done c cells o
+        takes-single o e (h, m) g =
+            rw (← told, fit, e, ← is, m) (handed-out (state r cells output) r (toldAnswer (c .answer)) o (packetIn (r .kind) paged 1 own) h g)
+
+        pub takes-part : (key : Key) (total number : ℕ) (a : After) → z ≡ arrival.Part key total number start
+            → a ≡ takePart slotCount (state r cells output) key total number own → a ≡ took
+        takes-part key total number a e h = rw (← told, fit, e, ← is) h
 
 module _ (k : Kind) (octets : List ℕ) (z : Arrival) (start : ℕ) (own : List ℕ) (is : own ≡ drop start octets) (fits : Fitting k octets z) where
   pub single-fits : (output : List ℕ) → z ≡ arrival.Single start → length output ≡ mostOctets → length own ≤ length output
@@ -297,75 +318,72 @@ module _ (r : Record) (cells output : List ℕ) (z : Arrival) (a : After) where
   unfolding takePage
   page-taken page read h = rw (← read) h
 
+-- the record that is left, by whether a slot moved
+module _ (r : Record) (c : Change) (a : After) (cells output : List ℕ) (done : after (toldAnswer (c .answer)) (changed r c) cells output ≡ a) where
+  module _ (b : response.Answer) (r′ : Record) where
+    pub moved-so : (r″ : Record) → c .moves ≡ true → r″ ≡ replaced slotCount (c .front) r (c .slot) (c .entry) → (b ≡ c .answer) × (r′ ≡ r″)
+        → after (toldAnswer b) r′ cells output ≡ a
+    moved-so r″ m e (f, g) = rw (f, g, e) (rw m at done)
+
+    pub stayed-so : c .moves ≡ false → (b ≡ c .answer) × (r′ ≡ r) → after (toldAnswer b) r′ cells output ≡ a
+    stayed-so m (f, g) = rw (f, g) (rw m at done)
+
+-- the same of what is equal
+pub as-change : (r : Record) {c d : Change} {a : After} {cells cells′ output output′ : List ℕ} → cells ≡ cells′ → output ≡ output′ → c ≡ d
+    → after (toldAnswer (d .answer)) (changed r d) cells′ output′ ≡ a → after (toldAnswer (c .answer)) (changed r c) cells output ≡ a
+as-change r p q e h = rw (p, q, e) h
+
 -- what the proofs of deciding, of acting and of the calls search
 pub ruleset decideSteps = (
   needs,
-  all-from,
-  all-more,
-  all-through,
+  fault-from,
+  fault-more,
+  fault-through,
+  part-lacks,
+  none-lacks,
   short-at,
   other-total,
   held-same,
   held-other,
   new-last,
   new-more,
-  found-inside,
 )
 
 pub ruleset actSteps = (
   needs,
   part-kept,
-  comes-front,
+  slot-emptied,
   answer-packet,
   answer-none,
   single-answer,
   single-output,
-)
-
-pub ruleset finishSteps = (
-  needs,
-  slot-copied,
   whole-short,
   whole-some,
   whole-total,
   whole-fits,
   whole-answer,
   whole-output,
-  comes-free,
 )
 
 pub ruleset moreSteps = (
   needs,
-  slot-copied,
   whole-short,
-  whole-most,
   acts-refuses,
   acts-repeats,
   acts-keeps,
   acts-finishes,
-)
-
-pub ruleset partSteps = (
-  needs,
-  found-inside,
   part-more,
   part-opens,
-  more-room,
-  more-whole,
-  new-room,
 )
 
 pub ruleset takeSteps = (
   needs,
   unfit-told,
-  fit-sound,
-  fit-output,
   takes-unfit,
-  takes-refused,
-  takes-single,
-  takes-part,
+  fit-output,
   single-fits,
-  part-admitted,
+  seat-room,
+  seat-whole,
   message-taken,
   message-fitting,
   page-taken,

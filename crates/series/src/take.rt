@@ -6,11 +6,12 @@ use crate::packets;
 use formed::record_formed;
 use joined::Size;
 use slots::find;
-use slots::find::Found;
+use slots::find::Seat;
 use slots::order;
 use types::Answer;
 use types::Arrival;
 use types::Key;
+use types::Kind;
 use types::MOST_OCTETS;
 use types::PARTS;
 use types::Record;
@@ -18,25 +19,23 @@ use types::Refusal;
 use types::Slot;
 use types::Taken;
 ghost use mathlib.Core.Path.{_≡_};
-ghost use mathlib.Core.Bool.{not, _||_};
-ghost use Prim.Native.Nat.{ℕ, _≤_, _<_};
+ghost use mathlib.Core.Bool.{true, false, not, _||_};
+ghost use Prim.Native.Nat.{_≤_};
 ghost use lib.ListN.{length};
 ghost use lib.Dec.{eqb};
 ghost use Rattle.octets.specs.Octets.{placed};
-ghost use Rattle.types.specs.Refusals.{refusalNumber};
+ghost use Rattle.types.specs.declared.Answer.the-variants.{Kept};
 ghost use Rattle.packet.specs.Packets.{mostOctets};
 ghost use Rattle.arrival.specs.Arrivals.{toldArrival};
 ghost use Rattle.arrival.specs.Message.{mostParts};
-ghost use Rattle.arrival.specs.Laws.{Admitted};
 ghost use Rattle.joined.specs.Fronts.{packetIn, toldSize, lengthIn, outputWith};
-ghost use Rattle.slots.specs.Slots.{slotCount, slotAt, withPart, toFront, freed, withSlots};
+ghost use Rattle.slots.specs.Slots.{slotCount, withPart};
 ghost use Rattle.formed.specs.Formed.{recordFormed};
 ghost use Rattle.series.specs.Cells.{cellsSize, cellAt, joinedOctets};
 ghost use Rattle.series.specs.Handing.{Place, Short};
 ghost use Rattle.series.specs.Taking as rule;
 ghost use Rattle.series.specs.Taking.{toldAnswer, after};
-ghost use Rattle.series.specs.KeepLaws.{Sound};
-ghost use Rattle.series.specs.Deciding.{allWith, toldStep, stepAt, keyOf, answerOf, Room, Whole, Fitting, takenWhereFit};
+ghost use Rattle.series.specs.Deciding.{allWith, toldStep, stepAt, keyOf, answerOf, Room, Whole, fronted, emptied, Holds, Seated, Makes, Fitting, takenWhereFit};
 
 // What a part of a series that is there does.
 pub(crate) enum Step {
@@ -47,20 +46,21 @@ pub(crate) enum Step {
 }
 
 // ---- deciding
-// Whether each part up to the total is marked, or has the number.
-fn all_with(held: &[bool; PARTS], total: u8, number: usize) -> bool
+// Whether each part up to the total is marked, or has the number. All sixteen are looked at, at once.
+fn all_with(held: &[bool; PARTS], total: u8, number: u8) -> bool
     requires { ⌜ total ≤ mostParts ⌝ }
     ensures { λ r. ⌜ r ≡ allWith (now (held .entry)) total number ⌝ }
 {
-    let end = total as usize;
-    let mut all = true;
+    let mut missing = 0;
     let mut i = 0;
-    while i < end {
+    while i < PARTS {
         let h = held[i];
-        all = all & ((i + 1 == number) | h);
+        let k = i as u8;
+        let lacks = (k < total) & !((k + 1 == number) | h);
+        missing = missing | (lacks as u8);
         i = i + 1;
     }
-    all
+    missing == 0
 }
 
 // What part `number` of `total` does to the series x in slot i: 7 comes before 8. A part that is held is compared by its octets.
@@ -82,58 +82,63 @@ fn decide(x: Slot, i: usize, total: u8, number: usize, cells: &[u8], part: &[u8]
         }
         return Step::Refuses(Refusal::OtherOctets);
     }
-    if all_with(&x.held, total, number) {
+    if all_with(&x.held, total, number as u8) {
         return Step::Finishes;
     }
     Step::Keeps
 }
 
 // ---- acting
-// A refusal leaves the record as it is.
-fn refused(unchanged: Record, why: Refusal) -> Taken
-    ensures { λ r. ⌜ (toldAnswer (r .answer) ≡ rule.refusedBy (refusalNumber why)) × (r .record ≡ unchanged) ⌝ }
+// What is answered, and what becomes of the record: it stays as it is, or a slot moves, to the front or out, and is `entry` then.
+pub(crate) struct Change {
+    pub answer: Answer,
+    pub moves: bool,
+    pub front: bool,
+    pub slot: usize,
+    pub entry: Slot,
+}
+
+// The record stays as it is.
+fn unchanged(answer: Answer) -> Change
+    ensures { λ r. ⌜ (r .answer ≡ answer) × (r .moves ≡ false) ⌝ }
 {
-    Taken {
-        answer: Answer::Refused(why),
-        record: unchanged,
+    Change {
+        answer: answer,
+        moves: false,
+        front: false,
+        slot: 0,
+        entry: find::free_slot(),
     }
 }
 
-// The series in slot i becomes the most recent; nothing is written.
-fn repeated(state: Record, i: usize, x: Slot) -> Taken
-    requires { ⌜ (i < slotCount) × ((j : ℕ) → slotAt (state .slots) j .rank < 255) ⌝ }
-    ensures { λ r. ⌜ (toldAnswer (r .answer) ≡ rule.heldAlready i) × (r .record ≡ withSlots state (toFront (state .slots) i x)) ⌝ }
+// Slot i comes to the front, as x.
+fn to_front(answer: Answer, i: usize, x: Slot) -> Change
+    ensures { λ r. ⌜ r ≡ fronted answer i x ⌝ }
 {
-    Taken {
-        answer: Answer::HeldAlready { slot: i },
-        record: order::to_front(state, i, x),
+    let mut y = x;
+    y.rank = 1;
+    Change {
+        answer: answer,
+        moves: true,
+        front: true,
+        slot: i,
+        entry: y,
     }
 }
 
 // Part `number` is written to its cell, and slot i, which is x without it, becomes the most recent.
-fn keep(
-    state: Record,
-    i: usize,
-    displaced: bool,
-    x: Slot,
-    number: usize,
-    part: &[u8],
-    cells: &mut [u8],
-) -> Taken
-    requires { ⌜ Room state i number (now part) (now cells) ⌝ }
-    ensures { λ r. ⌜ (toldAnswer (r .answer) ≡ rule.kept i displaced) × (r .record ≡ withSlots state (toFront (state .slots) i (withPart x number (length (now (part .entry)))))) ⌝ }
+fn keep(i: usize, displaced: bool, x: Slot, number: usize, part: &[u8], cells: &mut [u8]) -> Change
+    requires { ⌜ Room i number (now part) (now cells) ⌝ }
+    ensures { λ r. ⌜ r ≡ fronted (Kept i displaced) i (withPart x number (length (now (part .entry)))) ⌝ }
     ensures { λ _. ⌜ now (cells .exit) ≡ placed (now (cells .entry)) (cellAt i number) (now (part .entry)) ⌝ }
 {
     cells::store(cells, i, number, part);
     let n = part.len() as u8;
-    let y = find::with_part(x, number, n);
-    Taken {
-        answer: Answer::Kept {
-            slot: i,
-            displaced: displaced,
-        },
-        record: order::to_front(state, i, y),
-    }
+    let answer = Answer::Kept {
+        slot: i,
+        displaced: displaced,
+    };
+    to_front(answer, i, find::with_part(x, number, n))
 }
 
 // What is answered where a packet of that length was handed out, and where there was none.
@@ -146,96 +151,96 @@ fn handed(size: Size) -> Answer
     }
 }
 
-// Slot i, complete with the part that arrives, is handed out and freed; it is freed too where its parts join to no packet.
+// The series x in slot i, complete with the part that arrives, is handed out and freed; it is freed too if its parts join to no packet.
 fn finish<'a>(
-    state: Record,
-    i: usize,
+    kind: Kind,
     paged: bool,
+    i: usize,
+    x: Slot,
     number: usize,
     cells: &'a [u8],
     part: &'a [u8],
     out: &mut [u8],
-) -> Taken
-    requires { ⌜ Room state i number (now part) (now cells) ⌝ }
-    requires { ⌜ Whole (slotAt (state .slots) i) i number (now part) (now cells) (now out) ⌝ }
-    ensures { λ r. ⌜ (toldAnswer (r .answer) ≡ answerOf (lengthIn (packetIn (state .kind) paged (slotAt (state .slots) i .total) (joinedOctets (now (cells .entry)) (slotAt (state .slots) i) i number (now (part .entry)))))) × (r .record ≡ withSlots state (freed (state .slots) i)) ⌝ }
-    ensures { λ _. ⌜ now (out .exit) ≡ outputWith (packetIn (state .kind) paged (slotAt (state .slots) i .total) (joinedOctets (now (cells .entry)) (slotAt (state .slots) i) i number (now (part .entry)))) (now (out .entry)) ⌝ }
+) -> Change
+    requires { ⌜ Room i number (now part) (now cells) ⌝ }
+    requires { ⌜ Whole x i number (now part) (now cells) (now out) ⌝ }
+    ensures { λ r. ⌜ (toldAnswer (r .answer) ≡ answerOf (lengthIn (packetIn kind paged (x .total) (joinedOctets (now (cells .entry)) x i number (now (part .entry)))))) × (r ≡ emptied (r .answer) i) ⌝ }
+    ensures { λ _. ⌜ now (out .exit) ≡ outputWith (packetIn kind paged (x .total) (joinedOctets (now (cells .entry)) x i number (now (part .entry)))) (now (out .entry)) ⌝ }
 {
-    let x = find::slot_at(state, i);
     let total = octets::wide(x.total);
-    let kind = state.kind;
     let size = packets::hand_out(kind, paged, cells, &x.lengths, total, i, number, part, out);
-    Taken {
+    Change {
         answer: handed(size),
-        record: order::freed(state, i),
+        moves: true,
+        front: false,
+        slot: i,
+        entry: find::free_slot(),
     }
 }
 
-// A part of the series in slot i arrives.
+// A part of the series x in slot i arrives: what becomes of every record in which x is in slot i.
 fn take_more(
-    state: Record,
-    i: usize,
+    kind: Kind,
     paged: bool,
+    i: usize,
+    x: Slot,
     total: u8,
     number: usize,
     part: &[u8],
     cells: &mut [u8],
     out: &mut [u8],
-) -> Taken
-    requires { ⌜ Room state i number (now part) (now cells) ⌝ }
-    requires { ⌜ Whole (slotAt (state .slots) i) i number (now part) (now cells) (now out) ⌝ }
-    ensures { λ r. ⌜ after (toldAnswer (r .answer)) (r .record) (now (cells .exit)) (now (out .exit)) ≡ rule.acted slotCount (rule.state state (now (cells .entry)) (now (out .entry))) (keyOf paged) total number (now (part .entry)) (stepAt (now (cells .entry)) total number (now (part .entry)) i (slotAt (state .slots) i)) ⌝ }
+) -> Change
+    requires { ⌜ Room i number (now part) (now cells) ⌝ }
+    requires { ⌜ Whole x i number (now part) (now cells) (now out) ⌝ }
+    ensures { λ r. ⌜ Makes (λ s. Holds s kind i x) r (now (cells .exit)) (now (out .exit)) (λ s. rule.acted slotCount (rule.state s (now (cells .entry)) (now (out .entry))) (keyOf paged) total number (now (part .entry)) (stepAt (now (cells .entry)) total number (now (part .entry)) i x)) ⌝ }
 {
-    let x = find::slot_at(state, i);
     let step = decide(x, i, total, number, cells, part);
     match step {
-        Step::Refuses(why) => return refused(state, why),
-        Step::Repeats => return repeated(state, i, x),
-        Step::Keeps => return keep(state, i, false, x, number, part, cells),
-        Step::Finishes => return finish(state, i, paged, number, cells, part, out),
+        Step::Refuses(why) => return unchanged(Answer::Refused(why)),
+        Step::Repeats => return to_front(Answer::HeldAlready { slot: i }, i, x),
+        Step::Keeps => return keep(i, false, x, number, part, cells),
+        Step::Finishes => return finish(kind, paged, i, x, number, cells, part, out),
     }
 }
 
-// A part arrives: of a series that is there, or the first of one that is not.
+// A part of the series with that key arrives: of one that is held in its slot as x, or the first of a new one.
 fn take_part(
-    state: Record,
+    kind: Kind,
     key: Key,
+    o: Seat,
+    x: Slot,
     total: u8,
-    number: u8,
+    number: usize,
     part: &[u8],
     cells: &mut [u8],
     out: &mut [u8],
-) -> Taken
-    requires { ⌜ Sound slotCount state (now cells) ⌝ }
-    requires { ⌜ Admitted (state .kind) key total number (now part) ⌝ }
-    requires { ⌜ length (now out) ≡ mostOctets ⌝ }
-    ensures { λ r. ⌜ after (toldAnswer (r .answer)) (r .record) (now (cells .exit)) (now (out .exit)) ≡ rule.takePart slotCount (rule.state state (now (cells .entry)) (now (out .entry))) key total number (now (part .entry)) ⌝ }
+) -> Change
+    requires { ⌜ Room (o .slot) number (now part) (now cells) ⌝ }
+    requires { ⌜ (o .held ≡ true → Whole x (o .slot) number (now part) (now cells) (now out)) ⌝ }
+    ensures { λ r. ⌜ Makes (λ s. Seated s kind key o x) r (now (cells .exit)) (now (out .exit)) (λ s. rule.takePart slotCount (rule.state s (now (cells .entry)) (now (out .entry))) key total number (now (part .entry))) ⌝ }
 {
-    let k = number as usize;
-    match find::find_key(state, key) {
-        Found::At(i) => {
-            return take_more(state, i, key.width == 0, total, k, part, cells, out);
-        }
-        Found::Nothing => {
-            let o = find::new_place(state);
-            let x = find::opened(key, total);
-            return keep(state, o.slot, o.displaced, x, k, part, cells);
-        }
+    let i = o.slot;
+    if o.held {
+        return take_more(kind, key.width == 0, i, x, total, number, part, cells, out);
     }
+    keep(
+        i,
+        o.displaced,
+        find::opened(key, total),
+        number,
+        part,
+        cells,
+    )
 }
 
 // A single message or page is handed out; the record stays as it is.
-fn take_single(state: Record, paged: bool, part: &[u8], out: &mut [u8]) -> Taken
+fn take_single(kind: Kind, paged: bool, part: &[u8], out: &mut [u8]) -> Change
     requires { ⌜ length (now part) ≤ length (now out) ⌝ }
-    ensures { λ r. ⌜ (toldAnswer (r .answer) ≡ answerOf (lengthIn (packetIn (state .kind) paged 1 (now (part .entry))))) × (r .record ≡ state) ⌝ }
-    ensures { λ _. ⌜ now (out .exit) ≡ outputWith (packetIn (state .kind) paged 1 (now (part .entry))) (now (out .entry)) ⌝ }
+    ensures { λ r. ⌜ (toldAnswer (r .answer) ≡ answerOf (lengthIn (packetIn kind paged 1 (now (part .entry))))) × (r .moves ≡ false) ⌝ }
+    ensures { λ _. ⌜ now (out .exit) ≡ outputWith (packetIn kind paged 1 (now (part .entry))) (now (out .entry)) ⌝ }
 {
-    let kind = state.kind;
     let size = joined::hand_out(kind, paged, part, out);
-    Taken {
-        answer: handed(size),
-        record: state,
-    }
+    unchanged(handed(size))
 }
 
 // Whether a buffer lent is of another length than it must be, or the record is not well formed.
@@ -246,7 +251,18 @@ fn unfit(state: Record, cells: usize, out: usize) -> bool
     (cells != CELLS) | (out != MOST_OCTETS) | !formed
 }
 
-// Takes what reading the octets of a message or a page gave, once buffers and record are found to be as they must be.
+// The answer and the record, as they are handed back.
+fn taken(answer: Answer, left: Record) -> Taken
+    ensures { λ r. ⌜ (r .answer ≡ answer) × (r .record ≡ left) ⌝ }
+{
+    Taken {
+        answer: answer,
+        record: left,
+    }
+}
+
+// Takes what reading the octets of a message or a page gave, once buffers and record are found to be as they must be. Only this function
+// looks into the record and makes another: handed on as a whole it would be copied each time.
 fn take_arrival(
     state: Record,
     paged: bool,
@@ -259,12 +275,13 @@ fn take_arrival(
     ensures { λ r. ⌜ after (toldAnswer (r .answer)) (r .record) (now (cells .exit)) (now (out .exit)) ≡ takenWhereFit slotCount (rule.state state (now (cells .entry)) (now (out .entry))) paged (now (octets .entry)) (toldArrival arrival) ⌝ }
 {
     if unfit(state, cells.len(), out.len()) {
-        return refused(state, Refusal::BufferOrRecord);
+        return taken(Answer::Refused(Refusal::BufferOrRecord), state);
     }
-    match arrival {
-        Arrival::Refused(why) => return refused(state, why),
+    let kind = state.kind;
+    let c = match arrival {
+        Arrival::Refused(why) => unchanged(Answer::Refused(why)),
         Arrival::Single { start } => {
-            return take_single(state, paged, arrival::own_octets(octets, start), out);
+            take_single(kind, paged, arrival::own_octets(octets, start), out)
         }
         Arrival::Part {
             key,
@@ -273,9 +290,18 @@ fn take_arrival(
             start,
         } => {
             let part = arrival::own_octets(octets, start);
-            return take_part(state, key, total, number, part, cells, out);
+            let o = find::seat_of(state, key);
+            let i = o.slot;
+            let x = state.slots[i];
+            take_part(kind, key, o, x, total, number as usize, part, cells, out)
         }
+    };
+    let answer = c.answer;
+    if c.moves {
+        let x = c.entry;
+        return taken(answer, order::replaced(state, c.slot, c.front, x));
     }
+    taken(answer, state)
 }
 
 // ---- taking

@@ -15,8 +15,9 @@ use Rattle.types.specs.declared.Key.{Key}
 use Rattle.types.specs.declared.Kind.{Kind}
 use Rattle.types.specs.declared.Slot.{Slot}
 use Rattle.slots.specs.Slots.{slotAt, withPart, sameKey, bears, isFree, find, isLeastRecent, leastRecent, freeSlot, freshRecord}
-use Rattle.slots.specs.Found.{toldFound, newPlace, found-inside, length-of-map, slotIn, slot-in, withPartIn}
+use Rattle.slots.specs.Found.{toldFound, newSeat, seatOf, found-inside, length-of-map, withPartIn}
 use Rattle.slots.specs.declared.find.Found.{Found}
+use Rattle.slots.specs.declared.find.Seat.{Seat}
 use Rattle.slots.specs.declared.find.Found.the-variants.{At, Nothing}
 use Rattle.slots.proofs.FindLaws.{Passed, find-at, find-none}
 
@@ -46,11 +47,18 @@ module _ (n : ℕ) (xs : List Slot) (f : Found) (told : toldFound f ≡ find (is
 
 -- where a new series goes
 module _ (n : ℕ) (xs : List Slot) (f : Found) (told : toldFound f ≡ find isFree xs) where
-  pub place-free : (i : ℕ) → f ≡ At i → record { slot = i; displaced = false } ≡ newPlace n xs
-  place-free i e = rw (← told, e)
+  pub seat-free : (i : ℕ) → f ≡ At i → record { slot = i; held = false; displaced = false } ≡ newSeat n xs
+  seat-free i e = rw (← told, e)
 
-  pub place-least : (m : ℕ) → f ≡ Nothing → m ≡ leastRecent n xs → record { slot = m; displaced = true } ≡ newPlace n xs
-  place-least m e l = rw (← told, e, l)
+  pub seat-least : (m : ℕ) → f ≡ Nothing → m ≡ leastRecent n xs → record { slot = m; held = false; displaced = true } ≡ newSeat n xs
+  seat-least m e l = rw (← told, e, l)
+
+module _ (n : ℕ) (xs : List Slot) (key : Key) (f : Found) (told : toldFound f ≡ find (bears key) xs) where
+  pub seat-held : (i : ℕ) → f ≡ At i → record { slot = i; held = true; displaced = false } ≡ seatOf n xs key
+  seat-held i e = rw (← told, e)
+
+  pub seat-new : (o : Seat) → f ≡ Nothing → o ≡ newSeat n xs → o ≡ seatOf n xs key
+  seat-new o e h = rw (← told, e) h
 
 -- ---- flags and literals
 pub bears-told : (key : Key) (x : Slot) (b : Bool) → b ≡ sameKey (x .key) key → not (eqb (x .rank) 0) && b ≡ bears key x
@@ -59,14 +67,7 @@ bears-told key x b e = rw e
 pub fresh-told : (n : ℕ) (k : Kind) (x : Slot) → x ≡ freeSlot → record { kind = k; slots = replicate n x } ≡ freshRecord n k
 fresh-told n k x e = rw e
 
--- ---- a slot of the record, and a slot with a part
-module _ (n : ℕ) (xs : List Slot) (i : ℕ) where
-  pub slot-there : i < n → slotAt xs i ≡ slotIn n xs i
-  slot-there l = sym (slot-in n xs i l)
-
-  pub slot-none : (x : Slot) → n ≤ i → x ≡ freeSlot → x ≡ slotIn n xs i
-  slot-none x l e = rw (le-ltb i n l) e
-
+-- ---- a slot with a part
 module _ (x : Slot) (number n : ℕ) where
   pub part-zero : number ≡ 0 → x ≡ withPartIn x number n
   part-zero e = rw (eq-eqb number 0 e)
@@ -86,13 +87,13 @@ pub ruleset findSteps = (
   search-ends,
   least-found,
   least-none,
-  place-free,
-  place-least,
+  seat-free,
+  seat-least,
+  seat-held,
+  seat-new,
   found-inside,
   bears-told,
   fresh-told,
-  slot-there,
-  slot-none,
   part-zero,
   part-past,
   part-there,

@@ -13,9 +13,9 @@ use borrow.Author.Tests.{ltb-true, lt-ltb, le-ltb}
 use Rattle.octets.specs.Tests.{both}
 use Rattle.types.specs.declared.Slot.{Slot}
 use Rattle.types.specs.declared.Record.{Record}
-use Rattle.slots.specs.Slots.{slotAt, atRank, aged, closed, freeSlot, withSlots}
+use Rattle.slots.specs.Slots.{slotAt, atRank, aged, closed, withSlots}
 use Rattle.slots.specs.Found.{length-of-map}
-use Rattle.slots.specs.Order.{rankAfter, replaced, frontIn, freedIn}
+use Rattle.slots.specs.Order.{rankAfter, replaced}
 use Rattle.slots.proofs.OrderLaws.{Changed, firstRanked, first-next, first-more, first-all}
 
 -- ---- ranks
@@ -85,14 +85,6 @@ change-ends n i front r s j x done l inside =
 pub none-changed : (n i : ℕ) (front : Bool) (r : Record) (x : Slot) → n ≤ i → r ≡ replaced n front r i x
 none-changed n i front r x l = rw (le-ltb i n l)
 
--- ---- the two changes
-module _ (n : ℕ) (r s : Record) (i : ℕ) (y : Slot) where
-  pub comes-front : (x : Slot) → s ≡ replaced n true r i y → y ≡ atRank 1 x → s ≡ frontIn n r i x
-  comes-front x h e = rw e at h
-
-  pub comes-free : s ≡ replaced n false r i y → y ≡ freeSlot → s ≡ freedIn n r i
-  comes-free h e = rw e at h
-
 pub ruleset orderSteps = (
   needs,
   length-of-map,
@@ -105,6 +97,4 @@ pub ruleset orderSteps = (
   change-goes-on,
   change-ends,
   none-changed,
-  comes-front,
-  comes-free,
 )

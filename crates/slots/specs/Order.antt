@@ -1,5 +1,5 @@
--- What the calls on the order of recency come to on every input: also where i is no slot of the record, and at a rank that no slot of a
--- well-formed record has. Where neither is so they come to `toFront` and `freed`, by the laws at the end.
+-- What the call on the order of recency comes to on every input: also where i is no slot of the record, and at a rank that no slot of a
+-- well-formed record has. Where neither is so it comes to `toFront` and to `freed`, by the laws at the end.
 use Prim.Native.Nat.{ℕ, suc, _<_}
 use mathlib.Core.Path.{_≡_, refl}
 use mathlib.Core.Bool.{Bool, true, false, cond}
@@ -24,13 +24,6 @@ replaced n front r i x =
     (withSlots r (set (map (λ y. atRank (rankAfter front (slotAt (r .slots) i .rank) (y .rank)) y) (r .slots)) i x))
     r
 
--- the record with slot i in front, as x; the record with slot i free
-abbrev pub frontIn : ℕ → Record → ℕ → Slot → Record
-frontIn n r i x = replaced n true r i (atRank 1 x)
-
-abbrev pub freedIn : ℕ → Record → ℕ → Record
-freedIn n r i = replaced n false r i freeSlot
-
 -- ---- where i is a slot and every rank is below 255
 aged-all : (r : ℕ) (xs : List Slot) → ((j : ℕ) → slotAt xs j .rank < 255)
     → map (λ y. atRank (rankAfter true r (y .rank)) y) xs ≡ map (agedSlot r) xs
@@ -38,10 +31,11 @@ aged-all r [] low = refl
 aged-all r (x ∷ xs) low = rw (lt-ltb (x .rank) 255 (low 0), aged-all r xs (λ j. low (suc j)))
 
 module _ (n : ℕ) (r : Record) (i : ℕ) (inside : i < n) where
-  pub front-in : (x : Slot) → ((j : ℕ) → slotAt (r .slots) j .rank < 255) → frontIn n r i x ≡ withSlots r (toFront (r .slots) i x)
+  pub front-in : (x : Slot) → ((j : ℕ) → slotAt (r .slots) j .rank < 255)
+      → replaced n true r i (atRank 1 x) ≡ withSlots r (toFront (r .slots) i x)
   unfolding toFront
   front-in x low = rw (lt-ltb i n inside, aged-all (slotAt (r .slots) i .rank) (r .slots) low)
 
-  pub freed-in : freedIn n r i ≡ withSlots r (freed (r .slots) i)
+  pub freed-in : replaced n false r i freeSlot ≡ withSlots r (freed (r .slots) i)
   unfolding freed
   freed-in = rw (lt-ltb i n inside)

@@ -1,4 +1,4 @@
-// The slots of a record: a fresh one, one by its number, which is free, and which bears a key (01, "Series"). Each search goes over the slots
+// The slots of a record: a fresh one, which is free, and which bears a key (01, "Series"). Each search goes over the slots
 // by index, so another number of slots is another `SLOTS`.
 use types::Key;
 use types::Kind;
@@ -11,17 +11,18 @@ use types::Slot;
 ghost use mathlib.Core.Path.{_≡_};
 ghost use Prim.Native.Nat.{_<_};
 ghost use Rattle.slots.specs.Slots.{slotCount, opened, freeSlot, sameKey, bears, isFree, find, isLeastRecent, leastRecent, freshRecord};
-ghost use Rattle.slots.specs.Found.{toldFound, Inside, newPlace, slotIn, withPartIn};
+ghost use Rattle.slots.specs.Found.{toldFound, Inside, newSeat, seatOf, withPartIn};
 
 // Which slot a search found.
-pub enum Found {
+pub(crate) enum Found {
     At(usize),
     Nothing,
 }
 
-// Where a new series goes, and whether it displaces another.
-pub struct Opening {
+// The slot of a series: whether it is held there, and if not, whether it displaces another.
+pub struct Seat {
     pub slot: usize,
+    pub held: bool,
     pub displaced: bool,
 }
 
@@ -64,16 +65,6 @@ pub fn fresh(kind: Kind) -> Record
     }
 }
 
-// Slot i; where there is none, a free one.
-pub fn slot_at(state: Record, i: usize) -> Slot
-    ensures { λ r. ⌜ r ≡ slotIn slotCount (state .slots) i ⌝ }
-{
-    if SLOTS <= i {
-        return free_slot();
-    }
-    state.slots[i]
-}
-
 // The slot with part `number`, of n octets; where no part has that number, the slot as it is.
 pub fn with_part(x: Slot, number: usize, n: u8) -> Slot
     ensures { λ r. ⌜ r ≡ withPartIn x number n ⌝ }
@@ -111,7 +102,7 @@ fn bears(key: Key, x: Slot) -> bool
 }
 
 // The slot of the series with that key.
-pub fn find_key(state: Record, key: Key) -> Found
+fn find_key(state: Record, key: Key) -> Found
     ensures { λ r. ⌜ toldFound r ≡ find (bears key) (state .slots) ⌝ }
     ensures { λ r. ⌜ Inside slotCount r ⌝ }
 {
@@ -162,17 +153,33 @@ fn least_recent(state: Record) -> usize
 }
 
 // Where a new series goes: the lowest free slot, or with none free that of the least recent series.
-pub fn new_place(state: Record) -> Opening
-    ensures { λ r. ⌜ (r ≡ newPlace slotCount (state .slots)) × (r .slot < slotCount) ⌝ }
+fn new_seat(state: Record) -> Seat
+    ensures { λ r. ⌜ (r ≡ newSeat slotCount (state .slots)) × (r .slot < slotCount) ⌝ }
 {
     match find_free(state) {
-        Found::At(i) => Opening {
+        Found::At(i) => Seat {
             slot: i,
+            held: false,
             displaced: false,
         },
-        Found::Nothing => Opening {
+        Found::Nothing => Seat {
             slot: least_recent(state),
+            held: false,
             displaced: true,
         },
+    }
+}
+
+// Where the series with that key is, or else where a new one goes.
+pub fn seat_of(state: Record, key: Key) -> Seat
+    ensures { λ r. ⌜ (r ≡ seatOf slotCount (state .slots) key) × (r .slot < slotCount) ⌝ }
+{
+    match find_key(state, key) {
+        Found::At(i) => Seat {
+            slot: i,
+            held: true,
+            displaced: false,
+        },
+        Found::Nothing => new_seat(state),
     }
 }

@@ -1,21 +1,11 @@
 // The order of recency (01, "Series"): a slot comes to the front, or is freed, and the others keep their order. The loop goes over the slots
 // by index.
-use crate::find::free_slot;
 use types::Record;
 use types::SLOTS;
 use types::Slot;
 ghost use mathlib.Core.Path.{_≡_};
-ghost use Rattle.slots.specs.Slots.{slotCount, atRank};
-ghost use Rattle.slots.specs.Order.{rankAfter, replaced, frontIn, freedIn};
-
-// The slot at another rank.
-fn at_rank(x: Slot, r: u8) -> Slot
-    ensures { λ y. ⌜ y ≡ atRank r x ⌝ }
-{
-    let mut y = x;
-    y.rank = r;
-    y
-}
+ghost use Rattle.slots.specs.Slots.{slotCount};
+ghost use Rattle.slots.specs.Order.{rankAfter, replaced};
 
 // Rank q after a slot of rank r has come to the front, or was freed. No rank is counted past 255.
 fn rank_after(front: bool, r: u8, q: u8) -> u8
@@ -32,7 +22,7 @@ fn rank_after(front: bool, r: u8, q: u8) -> u8
 
 // The record with x in slot i, and the other slots at the ranks that they have once slot i has come to the front, or was freed. Where there
 // is no slot i, the record as it is.
-fn replaced(mut state: Record, i: usize, front: bool, x: Slot) -> Record
+pub fn replaced(mut state: Record, i: usize, front: bool, x: Slot) -> Record
     ensures { λ r. ⌜ r ≡ replaced slotCount front state i x ⌝ }
 {
     if SLOTS <= i {
@@ -49,18 +39,4 @@ fn replaced(mut state: Record, i: usize, front: bool, x: Slot) -> Record
     }
     state.slots[i] = x;
     state
-}
-
-// The record with slot i in front, as x; what was more recent is one less so.
-pub fn to_front(state: Record, i: usize, x: Slot) -> Record
-    ensures { λ r. ⌜ r ≡ frontIn slotCount state i x ⌝ }
-{
-    replaced(state, i, true, at_rank(x, 1))
-}
-
-// The record with slot i free; the other slots keep their order, without a gap.
-pub fn freed(state: Record, i: usize) -> Record
-    ensures { λ r. ⌜ r ≡ freedIn slotCount state i ⌝ }
-{
-    replaced(state, i, false, free_slot())
 }
