@@ -8,8 +8,9 @@ use Rattle.types.specs.Refusals as reading
 use Rattle.types.specs.declared.Key.{Key}
 use Rattle.arrival.specs.Arrivals.{part}
 use Rattle.series.specs.Calls.{read}
+use Rattle.demands.specs.Lists.{complete}
 use Rattle.demands.specs.Runs.{Call, Each}
-use Rattle.demands.specs.Wake.{complete, History, historyWith, follow, EachWith}
+use Rattle.demands.specs.Wake.{History, follow, EachWith}
 
 abbrev pub All : (Call → Type 0) → List Call → Type 0
 All Claim [] = Unit {0}
@@ -28,11 +29,11 @@ module _ (n : ℕ) (k : Kind) (K : Key) (t : ℕ) (Claim : History → Call → 
 
   abbrev pub Along : History → List Call → Type 0
   Along w [] = Unit {0}
-  Along w (c ∷ cs) = Here w c × Along (historyWith n k K w c) cs
+  Along w (c ∷ cs) = Here w c × Along (follow n k K w (c ∷ [])) cs
 
   pub each-with : (calls : List Call) (w : History) → Along w calls → EachWith n k K t Claim w calls
   each-with [] w a [] d v e = absurd (nil≢cons e)
   each-with [] w a (c ∷ u) d v e = absurd (nil≢cons e)
   each-with (c ∷ cs) w a [] d v e = subst (Here w) (head-eq-of-cons-eq e) (a .0)
   each-with (c ∷ cs) w a (x ∷ u) d v e =
-      subst (λ (y : Call). Here (follow n k K (historyWith n k K w y) u) d) (head-eq-of-cons-eq e) (each-with cs (historyWith n k K w c) (a .1) u d v (tail-eq-of-cons-eq e))
+      subst (λ (y : Call). Here (follow n k K w (y ∷ u)) d) (head-eq-of-cons-eq e) (each-with cs (follow n k K w (c ∷ [])) (a .1) u d v (tail-eq-of-cons-eq e))

@@ -29,9 +29,9 @@ use Rattle.series.specs.Taking.{State, After, state, packet, after, handOut, ta
 use Rattle.series.specs.Calls.{Input, message, page, octetsOf, read}
 use Rattle.split.specs.Splitting as split
 use Rattle.split.specs.Laws.{some-part, page-ends, message-given, page-given}
-use Rattle.demands.specs.Lists.{elem, add}
+use Rattle.demands.specs.Lists.{elem, add, complete}
 use Rattle.demands.specs.Runs.{Call, Store, fresh, outcome, run, Octets, Proper, Each}
-use Rattle.demands.specs.Wake.{Cut, complete, History, historyFrom, historyPart, historyAfter, historyWith, follow, EachWith}
+use Rattle.demands.specs.Wake.{Cut, History, begin, historyAfter, follow, EachWith}
 use Rattle.demands.specs.SplitTaken.{listed, keyOf, Sent, Sending}
 use Rattle.demands.specs.Delivery.{Brings, nothing-more, next, InParts, Delivered, MessagesDelivered, PagesDelivered, MessagesWritten, PagesWritten}
 use Rattle.demands.proofs.Lists.{elem-add, elem-still}
@@ -61,10 +61,10 @@ module _ (n : ℕ) (pos : 0 < n) (k : Kind) (K : Key) (P : List ℕ) (t : ℕ) (
   module _ (several : t ≡ 1 → ⊥) where
     -- after a call that brings part m: m has come, and no other key since
     seen-part : (w : History) (m : ℕ) → 1 ≤ m → m ≤ t → (c : Call) → c .input ≡ written m
-        → (historyWith n k K w c .arrived ≡ add m (w .arrived)) × (historyWith n k K w c .othersSince ≡ [])
+        → (follow n k K w (c ∷ []) .arrived ≡ add m (w .arrived)) × (follow n k K w (c ∷ []) .othersSince ≡ [])
     seen-part w m low high c is =
         subst (λ (r : reading.Outcome Brought). (historyAfter n k K w a r .arrived ≡ add m (w .arrived)) × (historyAfter n k K w a r .othersSince ≡ [])) (sym (ap (read k) is ∙ splits .reads several m low high))
-        (subst (λ (b : Bool). (historyPart n k K w a K m b .arrived ≡ add m (w .arrived)) × (historyPart n k K w a K m b .othersSince ≡ [])) (sym (key-same K K refl)) (refl, refl))
+        (rw (key-same K K refl), rw (key-same K K refl))
       where
         a : After
         a = outcome n (w .store) c
@@ -73,26 +73,26 @@ module _ (n : ℕ) (pos : 0 < n) (k : Kind) (K : Key) (P : List ℕ) (t : ℕ) (
     all-sent nothing-more w z = tt
     all-sent (next m low high c is size rest) w z = (
       (λ total number start e o. record { which = m; low = low; high = high; is = is; fewOthers = λ ne. rw z pos }),
-      all-sent rest (historyWith n k K w c) (seen-part w m low high c is .1),
+      all-sent rest (follow n k K w (c ∷ [])) (seen-part w m low high c is .1),
     )
 
     -- what has come stays, and each number of the order has come in the end
     got-stays : {order : List ℕ} {calls : List Call} → Brings t written order calls → (w : History) (j : ℕ) → elem j (w .arrived) ≡ true → elem j (follow n k K w calls .arrived) ≡ true
     got-stays nothing-more w j e = e
     got-stays (next m low high c is size rest) w j e =
-        got-stays rest (historyWith n k K w c) j (ap (elem j) (seen-part w m low high c is .0) ∙ elem-still m j (w .arrived) e)
+        got-stays rest (follow n k K w (c ∷ [])) j (ap (elem j) (seen-part w m low high c is .0) ∙ elem-still m j (w .arrived) e)
 
     got-all : {order : List ℕ} {calls : List Call} → Brings t written order calls → (w : History) (j : ℕ) → elem j order ≡ true → elem j (follow n k K w calls .arrived) ≡ true
     got-all nothing-more w j e = absurd (clash false e refl)
     got-all (next {order = order} m low high c is size rest) w j e =
         first-or-later j m order e
-        (λ p. got-stays rest (historyWith n k K w c) j (ap (elem j) (seen-part w m low high c is .0) ∙ elem-add m j (w .arrived) ∙ rw (eq-eqb j m p)))
-        (λ f. got-all rest (historyWith n k K w c) j f)
+        (λ p. got-stays rest (follow n k K w (c ∷ [])) j (ap (elem j) (seen-part w m low high c is .0) ∙ elem-add m j (w .arrived) ∙ rw (eq-eqb j m p)))
+        (λ f. got-all rest (follow n k K w (c ∷ [])) j f)
 
     module _ (cells : List ℕ) (earlier : List Call) (size : length cells ≡ cellsSize n) (before : Each Proper earlier)
         (lacks : Lacks n (run n (fresh n k cells) earlier .rec .slots) K) where
       abbrev w : History
-      w = historyFrom (run n (fresh n k cells) earlier)
+      w = begin n k cells earlier
 
       in-parts : (order : List ℕ) (calls : List Call) → Brings t written order calls → complete t order ≡ true → InParts n k K P t octets written w calls
       in-parts order calls brings all =

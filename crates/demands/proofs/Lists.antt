@@ -16,9 +16,10 @@ use Rattle.slots.specs.FrontLaws.{same-key, key-same}
 use Rattle.types.specs.declared.Slot.{Slot}
 use Rattle.slots.specs.Slots.{slotAt, sameKey}
 use Rattle.series.specs.Cells.{joined}
+use Rattle.series.specs.Taking.{Answer}
 use Rattle.series.specs.CaseLaws.{Lacks}
-use Rattle.demands.specs.Lists.{concat, elem, elemKey, add, addKey, dropKey}
-use Rattle.demands.specs.Wake.{complete, firstSlot}
+use Rattle.demands.specs.Lists.{concat, elem, elemKey, add, addKey, complete, dropKey}
+use Rattle.demands.specs.Wake.{firstSlot}
 
 -- ---- two keys, the same or not
 pub data Alike (a b : Key) : Type 0 where
@@ -51,9 +52,9 @@ pub add-not-nil : (k : ℕ) (l : List ℕ) → add k l ≡ [] → ⊥
 add-not-nil k l e = clash (elem k (add k l)) (elem-add k k l ∙ rw (eq-eqb k k refl)) (ap (elem k) e)
 
 -- behind the first part the slot stays
-pub first-known : (got : List ℕ) (this was : ℕ) → (got ≡ [] → ⊥) → firstSlot got this was ≡ was
-first-known [] this was begun = absurd (begun refl)
-first-known (m ∷ got) this was begun = refl
+pub first-known : (got : List ℕ) (answer : Answer) (was : ℕ) → (got ≡ [] → ⊥) → firstSlot got answer was ≡ was
+first-known [] answer was begun = absurd (begun refl)
+first-known (m ∷ got) answer was begun = refl
 
 -- with number k too, none is missing
 pub complete-add : (t k : ℕ) (got : List ℕ) → complete t (add k got) ≡ allBelow t (λ i. eqb (i + 1) k || elem (i + 1) got)

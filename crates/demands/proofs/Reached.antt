@@ -27,7 +27,7 @@ use Rattle.series.specs.Taking.{step, takePart, takeMessage, packet}
 use Rattle.demands.specs.Examples.{M}
 use Rattle.series.specs.Calls.{Input}
 use Rattle.demands.specs.Runs.{Call, fresh, outcome, run, Octets, Proper}
-use Rattle.demands.specs.Wake.{messages, History, historyWith, Fair, begin}
+use Rattle.demands.specs.Wake.{messages, History, follow, Fair, begin}
 use Rattle.demands.proofs.Calls.{fresh-free}
 use Rattle.demands.proofs.Along.{All, each, Here, each-with}
 use Rattle.demands.specs.Reached.{key, halves, call, first, second, other, cells, two, Met, Missed, longest, longestPaged, asMessage, asPage, inOrder, Longest}
@@ -50,16 +50,16 @@ same-part e = (cc, cc, cc, cc)
 module _ (b : ℕ) where
   -- what is seen before each call
   abbrev w₀ : History
-  w₀ = begin slotCount Command key M halves (cells b) []
+  w₀ = begin slotCount Command (cells b) []
 
   abbrev w₁ : History
-  w₁ = historyWith slotCount Command key w₀ (first b)
+  w₁ = follow slotCount Command key w₀ (first b ∷ [])
 
   abbrev w₂ : History
-  w₂ = historyWith slotCount Command key w₁ (other b 2)
+  w₂ = follow slotCount Command key w₁ (other b 2 ∷ [])
 
   abbrev w₃ : History
-  w₃ = historyWith slotCount Command key w₂ (other b 3)
+  w₃ = follow slotCount Command key w₂ (other b 3 ∷ [])
 
   abbrev Fair′ : History → Call → Type 0
   Fair′ = Here slotCount Command key 2 (Fair slotCount Command key M halves)
@@ -103,9 +103,9 @@ module _ (b : ℕ) where
       before = each Proper [] tt;
       proper = each Proper (two b) all-proper;
       lacks = λ j l u e. fresh-free slotCount j l u;
+      fair = each-with slotCount Command key 2 (Fair slotCount Command key M halves) (two b) w₀
+          (fair-first, (fair-other w₁ 2 (λ e. omega arith), (fair-other w₂ 3 (λ e. omega arith), (fair-second, tt))));
     };
-    fair = each-with slotCount Command key 2 (Fair slotCount Command key M halves) (two b) w₀
-        (fair-first, (fair-other w₁ 2 (λ e. omega arith), (fair-other w₂ 3 (λ e. omega arith), (fair-second, tt))));
     comes = comes;
   }
 

@@ -23,9 +23,9 @@ use Rattle.series.specs.Calls.{Input, message, page, read, octetsOf}
 use Rattle.split.specs.Splitting as split
 use Rattle.split.specs.Laws.{single-size, part-whole, parts-join, pages-join, page-begins, page-ends}
 use Rattle.split.specs.ReadBack.{ownFrom, read-single, single-octets, read-part, own-octets, read-single-page, read-page, content-octets}
-use Rattle.demands.specs.Lists.{concat}
-use Rattle.demands.specs.Runs.{Call, fresh, run}
-use Rattle.demands.specs.Wake.{Cut, messages, pages, complete, History, historyFrom, follow, EachWith, Fair, Served, Start, Comes}
+use Rattle.demands.specs.Lists.{concat, complete}
+use Rattle.demands.specs.Runs.{Call}
+use Rattle.demands.specs.Wake.{Cut, messages, pages, History, begin, follow, EachWith, Fair, Served, Start, Comes}
 use Rattle.demands.specs.SplitTaken.{listed, Sent, Sending, Arrives, keyOf, MessagesArrive, PagesArrive}
 use Rattle.demands.proofs.Lists.{concat-last}
 use Rattle.demands.proofs.Calls.{isPage}
@@ -84,31 +84,28 @@ module _ (n : ℕ) (pos : 0 < n) (k : Kind) (K : Key) (P : List ℕ) (t : ℕ) (
 
   module _ (cells : List ℕ) (earlier calls : List Call) (s : Sending n k K P cells earlier calls) where
     abbrev w : History
-    w = historyFrom (run n (fresh n k cells) earlier)
-
-    starts : Start n k K P (listed octets t) cells earlier calls
-    starts = record {
-      formed = s .formed;
-      cut = splits .cut (s .formed);
-      two = omega (arith, length-listed octets t);
-      size = s .size;
-      before = s .before;
-      proper = s .proper;
-      lacks = s .lacks;
-    }
+    w = begin n k cells earlier
 
     module _ (sent : EachWith n k K t (Sent n t written) w calls) where
-      all-fair : EachWith n k K (length (listed octets t)) (Fair n k K P (listed octets t)) w calls
-      all-fair =
-          subst (λ (m : ℕ). EachWith n k K m (Fair n k K P (listed octets t)) w calls) (sym (length-listed octets t))
-          (λ u c v e total number start r o. sent-fair (follow n k K w u) c total number start r (sent u c v e total number start r o))
+      starts : Start n k K P (listed octets t) cells earlier calls
+      starts = record {
+        formed = s .formed;
+        cut = splits .cut (s .formed);
+        two = omega (arith, length-listed octets t);
+        size = s .size;
+        before = s .before;
+        proper = s .proper;
+        lacks = s .lacks;
+        fair = subst (λ (m : ℕ). EachWith n k K m (Fair n k K P (listed octets t)) w calls) (sym (length-listed octets t))
+            (λ u c v e total number start r o. sent-fair (follow n k K w u) c total number start r (sent u c v e total number start r o));
+      }
 
       pub all-served : EachWith n k K (length (listed octets t)) (Served n k K P (listed octets t)) w calls
-      all-served = wake-window n pos k K P (listed octets t) cells earlier calls starts all-fair
+      all-served = wake-window n pos k K P (listed octets t) cells earlier calls starts
 
       pub it-comes : complete t (follow n k K w calls .arrived) ≡ true → Comes n k K P (listed octets t) w calls
       it-comes all =
-          packet-comes n pos k K P (listed octets t) cells earlier calls starts all-fair
+          packet-comes n pos k K P (listed octets t) cells earlier calls starts
           (subst (λ (m : ℕ). complete m (follow n k K w calls .arrived) ≡ true) (sym (length-listed octets t)) all)
 
   arrives : Arrives n k K P t octets written

@@ -30,12 +30,12 @@ use Rattle.formed.specs.Laws.{Formed, UsedSlot, slot-tells}
 use Rattle.series.specs.PartLaws.{total-bounds}
 use Rattle.series.specs.Cells.{cellOctets, cellsSize, cellAt, cellPart, partOf, joinedOctets}
 use Rattle.series.specs.CellLaws.{part-by-length, cell-there}
-use Rattle.series.specs.Taking.{State, After, state, heldAlready, Step, repeats, keeps, finishes, completes, acted, handOut}
+use Rattle.series.specs.Taking.{State, After, state, kept, heldAlready, after, Step, repeats, keeps, finishes, completes, acted, handOut}
 use Rattle.series.specs.CaseLaws.{Bears, Lacks, Case, other-total, other-octets, again, last, more, opens, displaces}
 use Rattle.series.specs.KeepLaws.{short}
-use Rattle.demands.specs.Lists.{concat, elem, elemKey, add, addKey}
-use Rattle.demands.specs.Runs.{Call}
-use Rattle.demands.specs.Wake.{Cut, messages, pages, complete, counts, slotOf, History, firstSlot, NewPlace, lowest-free, least-recent, Repeated, Waits, Wakes}
+use Rattle.demands.specs.Lists.{concat, elem, elemKey, add, addKey, complete}
+use Rattle.demands.specs.Runs.{Call, outcome}
+use Rattle.demands.specs.Wake.{Cut, messages, pages, History, counts, firstSlot, Place, lowest-free, least-recent, later, Served, again as served-again, waits, wakes}
 use Rattle.demands.proofs.Lists.{add-old, add-not-nil, first-known, complete-add, one-short, elem-key-add, elem-key-self, length-add-key, pigeon, keys-apart, joined-parts}
 use Rattle.demands.proofs.Track.{aged-mono, closed-mono, length-short, Track, lacks-moved, track-moved, track-again, track-kept}
 
@@ -125,7 +125,7 @@ module _ (n : ℕ) (K : Key) (parts : List (List ℕ)) where
     xs = s .rec .slots
 
     abbrev PhaseAfter : After → Type 0
-    PhaseAfter a = Phase (a .state .rec .slots) (a .state .cells) got i (cond (counts (a .answer)) (addKey X since) since)
+    PhaseAfter a = Phase (a .state .rec .slots) (a .state .cells) got i (cond (counts a) (addKey X since) since)
 
     -- the part is written to the cells of slot j: those of every other slot stay
     written : (j : ℕ) → j < n → (y : Slot) (m : ℕ) → (i ≡ j → ⊥) → 1 ≤ m → m ≤ mostParts → lengthAt (slotAt xs i) m ≤ cellOctets
@@ -163,15 +163,19 @@ module _ (n : ℕ) (K : Key) (parts : List (List ℕ)) where
 
 -- ---- a call with the key
 -- what it comes to, and how far the series has come with it
-pub record Serves (n : ℕ) (k : Kind) (K : Key) (P : List ℕ) (parts : List (List ℕ)) (q : History) (c : Call) (number : ℕ) (a : After) : Type 0 where
-  pub again : elem number (q .arrived) ≡ true → Repeated n k K P parts q c a
-  pub waits : elem number (q .arrived) ≡ false → complete (length parts) (add number (q .arrived)) ≡ false → Waits n k K P parts q c number a
-  pub wakes : elem number (q .arrived) ≡ false → complete (length parts) (add number (q .arrived)) ≡ true → Wakes n k K P parts q c a
-  pub phase : Phase n K parts (a .state .rec .slots) (a .state .cells) (add number (q .arrived)) (firstSlot (q .arrived) (slotOf (a .answer)) (q .slot)) []
+pub record Serves (n : ℕ) (k : Kind) (K : Key) (P : List ℕ) (parts : List (List ℕ)) (q : History) (c : Call) (total number start : ℕ) (a : After) : Type 0 where
+  pub served : outcome n (q .store) c ≡ a → Served n k K P parts q c total number start
+  pub phase : Phase n K parts (a .state .rec .slots) (a .state .cells) (add number (q .arrived)) (firstSlot (q .arrived) (a .answer) (q .slot)) []
+
+-- a part that is kept is in the slot of the first answer
+named : {n : ℕ} {rank : ℕ → ℕ} {i : ℕ} {d : Bool} (q : History) → Place n rank q i d → firstSlot (q .arrived) (kept i d) (q .slot) ≡ i
+named q (lowest-free z l f lower) = rw z
+named q (least-recent z l all) = rw z
+named {i = i} q (later begun is) = first-known (q .arrived) (kept i false) (q .slot) begun ∙ sym is
 
 module _ (n : ℕ) (k : Kind) (K : Key) (P : List ℕ) (parts : List (List ℕ)) (good : wellFormed k P ≡ true) (cut : Cut K P parts) (two : 2 ≤ length parts)
     (q : History) (c : Call) (kind : q .store .rec .kind ≡ k) (w : Formed n k (q .store .rec .slots)) (long : length (q .store .cells) ≡ cellsSize n)
-    (number : ℕ) (o : List ℕ) (adm : Admitted k K (length parts) number o) (brought : o ≡ getD parts (number - 1) []) where
+    (number start : ℕ) (o : List ℕ) (adm : Admitted k K (length parts) number o) (brought : o ≡ getD parts (number - 1) []) where
   abbrev s : State
   s = state (q .store .rec) (q .store .cells) (c .output)
 
@@ -185,22 +189,20 @@ module _ (n : ℕ) (k : Kind) (K : Key) (P : List ℕ) (parts : List (List ℕ))
   small = short K number (length o) (adm .lengthFits)
 
   abbrev Fine : After → Type 0
-  Fine = Serves n k K P parts q c number
+  Fine = Serves n k K P parts q c (length parts) number start
 
   -- the part is kept in slot i, whose entry was x: the series' own, or one that is opened for it
   fine-kept : (i : ℕ) → i < n → (d : Bool) (x : Slot) → x .key ≡ K → x .total ≡ length parts → length (x .lengths) ≡ mostParts → length (x .held) ≡ mostParts
       → ((m : ℕ) → 1 ≤ m → m ≤ mostParts → heldAt x m ≡ elem m (q .arrived))
       → ((m : ℕ) → 1 ≤ m → m ≤ mostParts → elem m (q .arrived) ≡ true → (lengthAt x m ≤ cellOctets) × (cellPart (q .store .cells) x i m ≡ getD parts (m - 1) []))
       → elem number (q .arrived) ≡ false → complete (length parts) (add number (q .arrived)) ≡ false
-      → (q .arrived ≡ [] → NewPlace n own i d) → ((q .arrived ≡ [] → ⊥) → (i ≡ q .slot) × (d ≡ false)) → firstSlot (q .arrived) i (q .slot) ≡ i
-      → Fine (acted n s K (length parts) number o (keeps i d x))
-  fine-kept i inside d x e t ls ms held octets new open′ first later named =
+      → Place n (λ j. slotAt own j .rank) q i d → Fine (acted n s K (length parts) number o (keeps i d x))
+  fine-kept i inside d x e t ls ms held octets new open′ place =
       let tr = track-kept n K parts k own (w .size) (q .store .cells) long i inside x e t ls ms (q .arrived) held octets number (adm .low) high o small brought in
+      let r = withSlots (q .store .rec) (toFront own i (withPart x number (length o))) in
       record {
-        again = λ h. absurd (clash (elem number (q .arrived)) h new);
-        waits = λ h m. record { slot = i; displaced = d; answer = refl; first = first; later = later; bears = tr .bears; cells = ap (placed (q .store .cells) (cellAt i number)) brought; output = refl };
-        wakes = λ h m. absurd (clash (complete (length parts) (add number (q .arrived))) m open′);
-        phase = rw named (during (add-not-nil number (q .arrived)) (λ few. tr));
+        served = λ h. waits r i d new open′ (h ∙ ap (λ (p : List ℕ). after (kept i d) r (placed (q .store .cells) (cellAt i number) p) (c .output)) brought) place (tr .bears);
+        phase = rw (named q place) (during (add-not-nil number (q .arrived)) (λ few. tr));
       }
 
   module _ (i : ℕ) (is : i ≡ q .slot) (since : List Key) (tr : Track n K parts own (q .store .cells) i (q .arrived) since) where
@@ -234,13 +236,13 @@ module _ (n : ℕ) (k : Kind) (K : Key) (P : List ℕ) (parts : List (List ℕ))
             let h′ : eqb (suc m) number || elem (suc m) (q .arrived) ≡ true = rw z at h in
             rw e (tr .octets (suc m) (omega arith) (omega (arith, total-bounds K (length parts) (adm .totalFits))) (simp e at h′) ∙ ap (λ (j : ℕ). getD parts j []) (omega arith))
 
-    fine-again : elem number (q .arrived) ≡ true → complete (length parts) (q .arrived) ≡ false → Fine (acted n s K (length parts) number o (repeats i))
-    fine-again old open′ =
-        let tr′ = track-again n K parts own (q .store .cells) i (q .arrived) since (w .size) tr in record {
-          again = λ h. record { answer = ap heldAlready is; bears = subst (Bears n (toFront own i (slotAt own i)) K) is (tr′ .bears); cells = refl; output = refl };
-          waits = λ h m. absurd (clash (elem number (q .arrived)) old h);
-          wakes = λ h m. absurd (clash (elem number (q .arrived)) old h);
-          phase = rw (add-old number (q .arrived) old, first-known (q .arrived) i (q .slot) not-none, ← is) (during (λ e. not-none e) (λ few. tr′));
+    fine-again : elem number (q .arrived) ≡ true → Fine (acted n s K (length parts) number o (repeats i))
+    fine-again old =
+        let tr′ = track-again n K parts own (q .store .cells) i (q .arrived) since (w .size) tr in
+        let r = withSlots (q .store .rec) (toFront own i (slotAt own i)) in
+        record {
+          served = λ h. served-again r old (subst (Bears n (r .slots) K) is (tr′ .bears)) (h ∙ ap (λ (j : ℕ). after (heldAlready j) r (q .store .cells) (c .output)) is);
+          phase = rw (add-old number (q .arrived) old, first-known (q .arrived) (heldAlready i) (q .slot) not-none, ← is) (during (λ e. not-none e) (λ few. tr′));
         }
       where
         not-none : q .arrived ≡ [] → ⊥
@@ -262,15 +264,11 @@ module _ (n : ℕ) (k : Kind) (K : Key) (P : List ℕ) (parts : List (List ℕ))
         let holds : packetIn (q .store .rec .kind) (ofPages K) (length parts) (joinedOctets (q .store .cells) (slotAt own i) i number o) ≡ some P =
         ap (λ (x : Kind). packetIn x (ofPages K) (length parts) (joinedOctets (q .store .cells) (slotAt own i) i number o)) kind
         ∙ ap (packetIn k (ofPages K) (length parts)) (whole full) ∙ packet-in k K P parts good cut in
-        subst (λ (p : Option (List ℕ)). Fine (handOut s (withSlots (q .store .rec) (freed own i)) p)) (sym holds) (record {
-          again = λ h. absurd (clash (elem number (q .arrived)) h new);
-          waits = λ h m. absurd (clash (complete (length parts) (add number (q .arrived))) full m);
-          wakes = λ h m. record { answer = refl; output = refl; cells = refl; gone = gone };
-          phase = done full;
-        })
+        subst (λ (p : Option (List ℕ)). Fine (handOut s (withSlots (q .store .rec) (freed own i)) p)) (sym holds)
+        (record { served = λ h. wakes (withSlots (q .store .rec) (freed own i)) new full gone h; phase = done full })
 
   -- the series is there, in the slot of its first answer: every other case is impossible
-  module _ (begun : q .arrived ≡ [] → ⊥) (since : List Key) (tr : Track n K parts own (q .store .cells) (q .slot) (q .arrived) since) (unfinished : complete (length parts) (q .arrived) ≡ false) where
+  module _ (begun : q .arrived ≡ [] → ⊥) (since : List Key) (tr : Track n K parts own (q .store .cells) (q .slot) (q .arrived) since) where
     is : (j : ℕ) → Bears n own K j → j ≡ q .slot
     is j b = w .keys j (q .slot) (b .inside) (tr .bears .inside) (b .used) (tr .bears .used) (b .key ∙ sym (tr .bears .key))
 
@@ -281,7 +279,7 @@ module _ (n : ℕ) (k : Kind) (K : Key) (P : List ℕ) (parts : List (List ℕ))
     fine-known st (other-total j b t) = absurd (t (here j b .total))
     fine-known st (other-octets j b t h e) =
         let t′ = here j b in absurd (e (t′ .octets number (adm .low) high (sym (t′ .held number (adm .low) high) ∙ h) ∙ sym brought))
-    fine-known st (again j b t h e) = let t′ = here j b in fine-again j (is j b) since t′ (sym (t′ .held number (adm .low) high) ∙ h) unfinished
+    fine-known st (again j b t h e) = let t′ = here j b in fine-again j (is j b) since t′ (sym (t′ .held number (adm .low) high) ∙ h)
     fine-known st (last j b t h e) = let t′ = here j b in fine-last j (is j b) since t′ (sym (t′ .held number (adm .low) high) ∙ h) (sym (told j (is j b) since t′) ∙ e)
     fine-known st (more j b t h e) =
         let t′ = here j b in
@@ -289,19 +287,18 @@ module _ (n : ℕ) (k : Kind) (K : Key) (P : List ℕ) (parts : List (List ℕ))
         fine-kept j (b .inside) false (slotAt own j) (b .key) t (u .lengths) (u .marks) (t′ .held)
         (λ m a l d. (length-short k (slotAt own j) u m a l, t′ .octets m a l d))
         (sym (t′ .held number (adm .low) high) ∙ h) (sym (told j (is j b) since t′) ∙ e)
-        (λ none-yet. absurd (begun none-yet)) (λ ne. (is j b, refl)) (first-known (q .arrived) j (q .slot) begun ∙ sym (is j b))
+        (later begun (is j b))
     fine-known st (opens j lacks l z lower) = absurd (lacks (q .slot) (tr .bears .inside) (tr .bears .used) (tr .bears .key))
     fine-known st (displaces j lacks l z all) = absurd (lacks (q .slot) (tr .bears .inside) (tr .bears .used) (tr .bears .key))
 
   -- no slot bears the key yet
   module _ (none-yet : q .arrived ≡ []) (lacks : Lacks n own K) where
-    fine-new : (i : ℕ) → i < n → (d : Bool) → NewPlace n own i d → Fine (acted n s K (length parts) number o (keeps i d (opened K (length parts))))
+    fine-new : (i : ℕ) → i < n → (d : Bool) → Place n (λ j. slotAt own j .rank) q i d → Fine (acted n s K (length parts) number o (keeps i d (opened K (length parts))))
     fine-new i l d place =
         fine-kept i l d (opened K (length parts)) refl refl (length-replicate {A = ℕ} mostParts 0) (length-replicate mostParts false)
         (λ m a b. getD-replicate mostParts (m - 1) false false (omega arith) ∙ sym (ap (elem m) none-yet))
         (λ m a b e. absurd (clash false (ap (elem m) (sym none-yet) ∙ e) refl))
-        (ap (elem number) none-yet) (ap (λ (l : List ℕ). complete (length parts) (add number l)) none-yet ∙ one-short (length parts) number two)
-        (λ e. place) (λ ne. absurd (ne none-yet)) (ap (λ (l : List ℕ). firstSlot l i (q .slot)) none-yet)
+        (ap (elem number) none-yet) (ap (λ (l : List ℕ). complete (length parts) (add number l)) none-yet ∙ one-short (length parts) number two) place
 
     nobody : (j : ℕ) → Bears n own K j → ⊥
     nobody j b = lacks j (b .inside) (b .used) (b .key)
@@ -312,8 +309,8 @@ module _ (n : ℕ) (k : Kind) (K : Key) (P : List ℕ) (parts : List (List ℕ))
     fine-first st (again j b t h e) = absurd (nobody j b)
     fine-first st (last j b t h e) = absurd (nobody j b)
     fine-first st (more j b t h e) = absurd (nobody j b)
-    fine-first st (opens j l a z lower) = fine-new j a false (lowest-free j a z lower)
-    fine-first st (displaces j l a z all) = fine-new j a true (least-recent j a (λ m h. (all m h, last-rank m h)))
+    fine-first st (opens j l a z lower) = fine-new j a false (lowest-free none-yet a z lower)
+    fine-first st (displaces j l a z all) = fine-new j a true (least-recent none-yet a (λ m h. (all m h, last-rank m h)))
       where
         last-rank : (m : ℕ) → m < n → slotAt own m .rank ≤ slotAt own j .rank
         last-rank m h = omega (arith, rank-bound n (λ j. slotAt own j .rank) (w .ranks) m h, count-at-most n (taken (λ j. slotAt own j .rank)), z)

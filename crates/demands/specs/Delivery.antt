@@ -18,8 +18,9 @@ use Rattle.series.specs.Taking.{packet, after}
 use Rattle.series.specs.CaseLaws.{Lacks}
 use Rattle.series.specs.Calls.{Input, message, page}
 use Rattle.split.specs.Splitting as split
+use Rattle.demands.specs.Lists.{complete}
 use Rattle.demands.specs.Runs.{Call, fresh, outcome, run, Octets, Proper, Each}
-use Rattle.demands.specs.Wake.{complete, History, historyFrom, EachWith, Served, Comes}
+use Rattle.demands.specs.Wake.{History, begin, EachWith, Served, Comes}
 use Rattle.demands.specs.SplitTaken.{listed, keyOf}
 
 -- The calls bring, in this order, the inputs that were written under these numbers, and nothing else; each lends an output of 01's length.
@@ -40,7 +41,7 @@ module _ (n : ℕ) (k : Kind) (K : Key) (P : List ℕ) (t : ℕ) (octets : ℕ �
         → outcome n (run n (fresh n k cells) earlier) c
         ≡ after (packet (length P)) (run n (fresh n k cells) earlier .rec) (run n (fresh n k cells) earlier .cells) (P ++ drop (length P) (c .output))
     pub in-parts : (t ≡ 1 → ⊥) → Lacks n (run n (fresh n k cells) earlier .rec .slots) K → (order : List ℕ) (calls : List Call)
-        → Brings t written order calls → complete t order ≡ true → InParts (historyFrom (run n (fresh n k cells) earlier)) calls
+        → Brings t written order calls → complete t order ≡ true → InParts (begin n k cells earlier) calls
 
   abbrev pub Delivered : Type 0
   Delivered = (cells : List ℕ) (earlier : List Call) → length cells ≡ cellsSize n → Each Proper earlier → Delivers cells earlier

@@ -1,9 +1,10 @@
 -- Lists of numbers and of keys, as sets, and lists that are joined.
-use Prim.Native.Nat.{ℕ}
+use Prim.Native.Nat.{ℕ, _+_}
 use mathlib.Core.Bool.{Bool, false, cond, _||_}
 use mathlib.Core.List.{List, [], _∷_, _++_}
 use lib.Dec.{eqb}
 use Rattle.types.specs.declared.Key.{Key}
+use Rattle.slots.specs.Below.{allBelow}
 use Rattle.slots.specs.Slots.{sameKey}
 
 -- all, one behind the other
@@ -26,6 +27,10 @@ add k l = cond (elem k l) l (k ∷ l)
 
 abbrev pub addKey : Key → List Key → List Key
 addKey X l = cond (elemKey X l) l (X ∷ l)
+
+-- all of 1 to t are there
+abbrev pub complete : ℕ → List ℕ → Bool
+complete t l = allBelow t (λ i. elem (i + 1) l)
 
 -- taken out
 abbrev pub dropKey : Key → List Key → List Key

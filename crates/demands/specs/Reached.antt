@@ -16,7 +16,7 @@ use Rattle.series.specs.Calls.{Input, message, page}
 use Rattle.split.specs.Splitting as split
 use Rattle.demands.specs.Examples.{M}
 use Rattle.demands.specs.Runs.{Call, fresh, outcome, run}
-use Rattle.demands.specs.Wake.{Fair, EachWith, Start, begin, historyFrom}
+use Rattle.demands.specs.Wake.{Start, begin}
 use Rattle.demands.specs.SplitTaken.{listed}
 use Rattle.demands.specs.Delivery.{InParts}
 
@@ -63,7 +63,6 @@ module _ (b : ℕ) where
   -- with two other keys the premises hold, and the packet comes
   pub record Met : Type 0 where
     pub start : Start slotCount Command key M halves cells [] two
-    pub fair : EachWith slotCount Command key 2 (Fair slotCount Command key M halves) (begin slotCount Command key M halves cells []) two
     pub comes : outcome slotCount (run slotCount (fresh slotCount Command cells) (first ∷ other 2 ∷ other 3 ∷ [])) second .answer ≡ packet 16
 
   -- with three the first part is displaced: the second opens a series anew, and displaces another
@@ -78,6 +77,6 @@ module _ (b : ℕ) where
   -- comes
   pub record Longest : Type 0 where
     pub sixteen : split.parts 8 (length longest) ≡ 16
-    pub in-sixteen : InParts slotCount Command key longest 16 (split.partOctets 8 longest) asMessage (historyFrom (fresh slotCount Command cells)) (inOrder 16 asMessage)
+    pub in-sixteen : InParts slotCount Command key longest 16 (split.partOctets 8 longest) asMessage (begin slotCount Command cells []) (inOrder 16 asMessage)
     pub fifteen : split.pages (length longestPaged) ≡ 15
-    pub in-fifteen : InParts slotCount Command (pageKey 0 0x1080) longestPaged 15 (split.contentOf longestPaged) asPage (historyFrom (fresh slotCount Command cells)) (inOrder 15 asPage)
+    pub in-fifteen : InParts slotCount Command (pageKey 0 0x1080) longestPaged 15 (split.contentOf longestPaged) asPage (begin slotCount Command cells []) (inOrder 15 asPage)

@@ -15,8 +15,9 @@ use Rattle.series.specs.Cells.{cellsSize}
 use Rattle.series.specs.CaseLaws.{Lacks}
 use Rattle.series.specs.Calls.{Input, message, page}
 use Rattle.split.specs.Splitting as split
+use Rattle.demands.specs.Lists.{complete}
 use Rattle.demands.specs.Runs.{Call, fresh, run, Proper, Each}
-use Rattle.demands.specs.Wake.{complete, History, historyFrom, follow, EachWith, Comes}
+use Rattle.demands.specs.Wake.{History, begin, follow, EachWith, Comes}
 
 -- f 1, f 2, .. f t
 abbrev pub listed : {A : Type 0} → (ℕ → A) → ℕ → List A
@@ -43,9 +44,9 @@ pub record Sending (n : ℕ) (k : Kind) (K : Key) (P : List ℕ) (cells : List �
 abbrev pub Arrives : (n : ℕ) (k : Kind) (K : Key) (P : List ℕ) (t : ℕ) (octets : ℕ → List ℕ) (written : ℕ → Input) → Type 0
 Arrives n k K P t octets written =
     (cells : List ℕ) (earlier calls : List Call) → Sending n k K P cells earlier calls
-    → EachWith n k K t (Sent n t written) (historyFrom (run n (fresh n k cells) earlier)) calls
-    → complete t (follow n k K (historyFrom (run n (fresh n k cells) earlier)) calls .arrived) ≡ true
-    → Comes n k K P (listed octets t) (historyFrom (run n (fresh n k cells) earlier)) calls
+    → EachWith n k K t (Sent n t written) (begin n k cells earlier) calls
+    → complete t (follow n k K (begin n k cells earlier) calls .arrived) ≡ true
+    → Comes n k K P (listed octets t) (begin n k cells earlier) calls
 
 -- user data, for either kind and either width
 abbrev pub keyOf : ℕ → ℕ → ℕ → Key
