@@ -38,10 +38,7 @@ use Rattle.types.specs.declared.Arrival.the-variants as arrival
 use Rattle.arrival.specs.Arrivals.{Brought, single, part, toldArrival}
 use Rattle.joined.specs.declared.Size as joined
 use Rattle.joined.specs.Fronts.{toldSize}
-use Rattle.slots.specs.declared.find.Found.{Found}
-use Rattle.slots.specs.declared.find.Found.the-variants as found
 use Rattle.slots.specs.Slots.{slotCount, freshRecord}
-use Rattle.slots.specs.Found.{toldFound}
 use Rattle.formed.specs.Formed.{recordFormed}
 use Rattle.types.specs.declared.Answer.{Answer}
 use Rattle.types.specs.declared.Answer.the-variants as answer
@@ -212,15 +209,6 @@ handed-back : (r : joined.Size × List ℕ) → handedOf (toldHanded r) ≡ r
 unfolding handedOf
 handed-back (r, b) = ap (λ (x : joined.Size). (x, b)) (size-back r)
 
-foundOf : Option ℕ → Found
-foundOf none = found.Nothing
-foundOf (some i) = found.At i
-
-found-back : (r : Found) → foundOf (toldFound r) ≡ r
-unfolding foundOf
-found-back (found.At i) = refl
-found-back found.Nothing = refl
-
 -- ---- the forms of outcomes
 pub tellings : Tellings
 tellings = record {
@@ -235,7 +223,6 @@ tellings = record {
   walk = tight toldWalked walkedOf walked-back;
   packet-size = tight toldSize sizeOf size-back;
   hand-out = tight toldHanded handedOf handed-back;
-  find-key = tight toldFound foundOf found-back;
 }
 
 pub plain-promises : PlainPromises

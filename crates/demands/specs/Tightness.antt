@@ -32,7 +32,6 @@ use Rattle.arrival.specs.Page.{readPage}
 use Rattle.joined.specs.declared.Size.{Size}
 use Rattle.joined.specs.Fronts.{toldSize}
 use Rattle.slots.specs.Slots.{slotCount, freshRecord}
-use Rattle.slots.specs.Found.{toldFound}
 use Rattle.formed.specs.Formed.{recordFormed}
 use Rattle.types.specs.declared.Taken.{Taken}
 use Rattle.series.specs.Taking as taking
@@ -74,16 +73,15 @@ pub record Tellings : Type 0 where
   pub take-message-and-page : Tight toldTaken
   -- write_message, write_page
   pub write-message-and-page : Tight toldPart
-  -- and of the calls between crates: judge, packet_size, hand_out, find_key; and of what walk answers, though its promise is the answer itself
+  -- and of the calls between crates: judge, packet_size, hand_out; and of what walk answers, though its promise is the answer itself
   pub judge : Tight toldJudged
   pub walk : Tight toldWalked
   pub packet-size : Tight toldSize
   pub hand-out : Tight toldHanded
-  pub find-key : Tight toldFound
 
 -- Where the promise is that the outcome itself is what the rule says, nothing else can be told of it. So it is of the other calls between
 -- crates: wide, before, least, cipher_bit, ciphered_command, element, nothing, plus, walk, in_range, is_pageless, reference_fits, room,
--- no_front, extended, front_of, opened, free_slot, slot_at, with_part, same_key, new_place, to_front, freed.
+-- no_front, extended, front_of, opened, free_slot, with_part, same_key, seat_of, replaced.
 abbrev pub PlainPromises : Type 1
 PlainPromises = (Outcome : Type 0) → Tight {Outcome = Outcome} {Paper = Outcome} (λ r. r)
 
