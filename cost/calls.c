@@ -1,0 +1,215 @@
+/* Each public call in its ordinary and its dearest case. Prints the name of each case; the plugin prints the instructions. With the word
+   `stack` it prints instead how far below the caller's frame the call writes. What a call answers is looked at: a wrong answer ends it. */
+#include <stdio.h>
+#include <stdlib.h>
+#include <string.h>
+#include "calls.h"
+
+enum { CELLS = 6432, MOST = 2142, PAGED = 1230, SMALL = 52, UD = 140, PAGE = 88, SUM = 2145, PAINTED = 16384 };
+
+static uint8_t cells[CELLS], out[MOST], ud[UD], page[PAGE], sum[SUM];
+static uint8_t packet[MOST], paged[PAGED], small[SMALL], response[MOST];
+static Record record;
+static Taken taken;
+static size_t length;
+static unsigned char *lowest;
+
+__attribute__((noinline)) void mark_begin(void) { __asm__ volatile("" ::: "memory"); }
+__attribute__((noinline)) void mark_end(void) { __asm__ volatile("" ::: "memory"); }
+
+/* ---- the stack: painted before a call, looked at behind it */
+__attribute__((noinline)) static void paint(void) {
+    volatile unsigned char area[PAINTED];
+    for (int i = 0; i < PAINTED; i++) area[i] = 0xA5;
+    lowest = (unsigned char *)area;
+}
+
+__attribute__((noinline)) static size_t depth(void *top) {
+    unsigned char *p = lowest;
+    while (p < (unsigned char *)top && *p == 0xA5) p++;
+    return (unsigned char *)top - p;
+}
+
+/* ---- a case */
+static int stack;
+
+static void run(const char *name, void (*call)(void)) {
+    if (stack) {
+        paint();
+        call();
+        printf("%zu\n", depth(__builtin_frame_address(0)));
+    } else {
+        mark_begin();
+        call();
+        mark_end();
+        printf("%s\n", name);
+    }
+}
+
+static void expect(int right) {
+    if (right) return;
+    fprintf(stderr, "calls: a call answered something else than it must\n");
+    exit(1);
+}
+
+static void answers(const char *name, void (*call)(void), int what, size_t number) {
+    run(name, call);
+    expect(taken.what == what && taken.number == number);
+}
+
+static void gives(const char *name, void (*call)(void), size_t right) {
+    run(name, call);
+    expect(length == right);
+}
+
+/* ---- the calls */
+static void nothing(void) {}
+static void hand_back(void) { taken = cost_hand_back(record, 7, ud, length, cells, CELLS, out, MOST); }
+static void take_message(void) { taken = cost_take_message(record, 7, ud, length, cells, CELLS, out, MOST); }
+static void take_page(void) { taken = cost_take_page(record, page, PAGE, cells, CELLS, out, MOST); }
+static void read_message(void) { length = cost_read_message(0, 7, ud, length); }
+static void read_page(void) { length = cost_read_page(0, page, PAGE); }
+static void fresh(void) { record = cost_fresh(0); }
+static void formed(void) { length = cost_record_formed(record); }
+static void parse_command(void) { length = cost_parse_command(packet, MOST); }
+static void parse_short(void) { length = cost_parse_command(packet, 100); }
+static void parse_response(void) { length = cost_parse_response(response, MOST, false); }
+static void build_small(void) { length = cost_build_command(packet, 8, packet, 28, out, MOST); }
+static void build_command(void) { length = cost_build_command(packet, 8, packet, 2118, out, MOST); }
+static void build_response(void) { length = cost_build_response(packet, 8, packet, 2121, out, MOST); }
+static void sum_small(void) { length = cost_command_checksum(small, SMALL, sum, SUM); }
+static void sum_command(void) { length = cost_command_checksum(packet, MOST, sum, SUM); }
+static void sum_response(void) { length = cost_response_checksum(response, MOST, sum, SUM); }
+static void write_message(void) { length = cost_write_message(0, 8, 7, 2, packet, MOST, ud, UD); }
+static void write_page(void) { length = cost_write_page(7, 0x1080, 0, 2, paged, PAGED, page, PAGE); }
+static void build_ciphered_command(void) { length = cost_build_ciphered_command(21, packet, 2132, out, MOST); }
+static void build_ciphered_response(void) { length = cost_build_ciphered_response(18, packet, 2136, out, MOST); }
+static void command_check(void) { length = cost_command_check(packet, MOST); }
+static void command_data(void) { length = cost_command_data(packet, MOST); }
+static void command_opaque(void) { length = cost_command_opaque(packet, MOST); }
+static void response_check(void) { length = cost_response_check(response, MOST, false); }
+static void response_data(void) { length = cost_response_data(response, MOST, false); }
+static void response_opaque(void) { length = cost_response_opaque(response, MOST, true); }
+static void well_formed(void) { length = cost_well_formed(0, packet, MOST); }
+static void length_formed(void) { length = cost_formed(0, MOST, packet[0], packet[1], packet[2]); }
+static void own_octets(void) { length = cost_own_octets(ud, UD, 6); }
+static void number_of(void) { length = cost_number_of(packet[0], packet[1]); }
+static void pair_of(void) { length = cost_pair_of(MOST); }
+static void put(void) { length = cost_put(packet, UD, out, MOST, 1000); }
+static void same(void) { length = cost_same(packet, UD, small, SMALL); }
+static void same_long(void) { length = cost_same(packet + 3, 134, response + 3, 134); }
+static void up_to(void) { length = cost_up_to(packet, MOST, UD); }
+
+/* ---- what they work on */
+static void stated(uint8_t *p, const uint8_t *from, size_t n, uint8_t header) {
+    memmove(p, from, n);
+    p[0] = (n - 2) >> 8, p[1] = (n - 2) & 255, p[2] = header;
+}
+
+static void fill(void) {
+    for (int i = 0; i < MOST; i++) packet[i] = (uint8_t)(i * 7 + 3);
+    packet[3] = 0x12;
+    stated(packet, packet, MOST, 21), stated(paged, packet, PAGED, 21), stated(small, packet, SMALL, 21), stated(response, packet, MOST, 18);
+}
+
+static void part(uint32_t reference, uint32_t number) { length = cost_write_message(0, 8, reference, number, packet, MOST, ud, UD); }
+
+static void hold(uint32_t reference, uint32_t number) {
+    part(reference, number), take_message();
+    record = taken.record;
+}
+
+static void empty_elements(void) {
+    memset(ud, 0, UD), ud[0] = 138, length = UD;
+    for (int i = 1; i < 139; i += 2) ud[i] = 0x55;
+}
+
+/* ---- the cases */
+static void messages(void) {
+    fresh(), part(1, 2);
+    answers("take_message, kept, empty record", take_message, 1, 0);
+    hold(1, 1), hold(2, 1), part(3, 1);
+    answers("take_message, kept, new, two others held", take_message, 1, 2);
+    hold(3, 1), part(1, 2);
+    answers("take_message, kept, three series held", take_message, 1, 0);
+    part(2, 1);
+    answers("take_message, held already, three series held", take_message, 2, 1);
+    part(4, 1);
+    answers("take_message, kept, displacing", take_message, 1, 0);
+    for (uint32_t k = 2; k < 16; k++) hold(1, k);
+    part(1, 16);
+    answers("take_message, the sixteenth part of 2,142 octets", take_message, 3, MOST);
+    length = cost_write_message(0, 8, 1, 1, small, SMALL, ud, UD);
+    answers("take_message, a single of 52 octets", take_message, 3, SMALL);
+    memset(ud, 0xFF, UD), length = UD;
+    answers("take_message, refused 3, garbage", take_message, 0, 3);
+    empty_elements();
+    run("take_message, header of 69 empty elements", take_message);
+    run("read_message, header of 69 empty elements", read_message);
+    part(1, 2);
+    gives("read_message, part 2 of 16", read_message, 6);
+    record.slots[2].rank = 3, part(1, 2);
+    answers("take_message, refused 1, record not well formed", take_message, 0, 1);
+}
+
+static void pages(void) {
+    fresh();
+    for (uint32_t k = 1; k < 15; k++) {
+        cost_write_page(5, 0x1080, 0, k, paged, PAGED, page, PAGE);
+        if (k == 3) answers("take_page, kept, one series held", take_page, 1, 0);
+        take_page(), record = taken.record;
+    }
+    cost_write_page(5, 0x1080, 0, 15, paged, PAGED, page, PAGE);
+    gives("read_page", read_page, 6);
+    answers("take_page, the fifteenth page of 1,230 octets", take_page, 3, PAGED);
+}
+
+static void records(void) {
+    run("fresh", fresh);
+    gives("record_formed, fresh", formed, 1);
+    hold(1, 1), hold(2, 1), hold(3, 1);
+    gives("record_formed, three series held", formed, 1);
+}
+
+static void packets(void) {
+    gives("parse_command, 2,142 octets", parse_command, 0);
+    gives("parse_command, refused 9", parse_short, 9);
+    gives("parse_response, 2,142 octets", parse_response, 0);
+    gives("build_command, 52 octets", build_small, SMALL);
+    gives("build_command, 2,142 octets", build_command, MOST);
+    gives("build_response, 2,142 octets", build_response, MOST);
+    gives("command_checksum, 52 octets", sum_small, 44);
+    gives("command_checksum, 2,142 octets", sum_command, 2134);
+    gives("response_checksum, 2,142 octets", sum_response, 2137);
+    gives("build_ciphered_command, 2,142 octets", build_ciphered_command, MOST);
+    gives("build_ciphered_response, 2,142 octets", build_ciphered_response, MOST);
+    gives("command_check", command_check, 8);
+    gives("command_data", command_data, 2118);
+    gives("command_opaque, of a plain one", command_opaque, 0);
+    gives("response_check", response_check, 8);
+    gives("response_data", response_data, 2121);
+    gives("response_opaque", response_opaque, 2136);
+    gives("well_formed", well_formed, 1);
+    gives("formed", length_formed, 1);
+    gives("write_message, part 2 of 16", write_message, UD);
+    gives("write_page, page 2 of 15", write_page, PAGE);
+}
+
+static void octets(void) {
+    gives("own_octets", own_octets, 134);
+    gives("number_of", number_of, MOST - 2);
+    gives("pair_of", pair_of, MOST & 255);
+    gives("put, 140 octets", put, 1);
+    gives("same, other lengths", same, 0);
+    gives("same, 134 octets", same_long, 1);
+    gives("up_to", up_to, UD);
+}
+
+int main(int argc, char **argv) {
+    stack = argc > 1 && !strcmp(argv[1], "stack");
+    fill();
+    run("an empty call", nothing);
+    run("a call that hands the record back as it is", hand_back);
+    messages(), pages(), records(), packets(), octets();
+    return 0;
+}
