@@ -97,6 +97,7 @@ static void number_of(void) { length = cost_number_of(packet[0], packet[1]); }
 static void pair_of(void) { length = cost_pair_of(MOST); }
 static void put(void) { length = cost_put(packet, UD, out, MOST, 1000); }
 static void same(void) { length = cost_same(packet, UD, small, SMALL); }
+static void same_not(void) { length = cost_same(packet + 3, 134, response + 4, 134); }
 static void same_long(void) { length = cost_same(packet + 3, 134, response + 3, 134); }
 static void up_to(void) { length = cost_up_to(packet, MOST, UD); }
 
@@ -201,7 +202,8 @@ static void octets(void) {
     gives("pair_of", pair_of, MOST & 255);
     gives("put, 140 octets", put, 1);
     gives("same, other lengths", same, 0);
-    gives("same, 134 octets", same_long, 1);
+    gives("same, 134 octets that differ at the first", same_not, 0);
+    gives("same, 134 octets that are the same", same_long, 1);
     gives("up_to", up_to, UD);
 }
 
