@@ -136,15 +136,9 @@ module _ (row n : ℕ) (octets : List ℕ) (b c : Bench) (cells output cells′ 
       unfolding changed
       changed-notes d f e g = rw (le-ltb row 3 l, le-ltb row 6 m, ne-eqb row 6 f, ← e, g)
 
-pub changed-none : (row n : ℕ) (octets : List ℕ) (b c : Bench) (cells output : List ℕ) → 13 < row → c ≡ b
-    → held c cells output ≡ changed row n octets (held b cells output)
-unfolding changed
-changed-none row n octets b c cells output l e =
-    rw (le-ltb row 3 (omega arith), le-ltb row 6 (omega arith), ne-eqb row 6 (λ z. omega (arith, z)), lt-ltb 7 row (omega arith), le-ltb row 11 (omega arith), ne-eqb row 11 (λ z. omega (arith, z)), ne-eqb row 12 (λ z. omega (arith, z)), e)
-
-pub changed-as : (row n : ℕ) (octets : List ℕ) (b c : Bench) (h : rule.Held) (cells′ output′ : List ℕ) → held b cells′ output′ ≡ changed row n octets h → c ≡ b
-    → held c cells′ output′ ≡ changed row n octets h
-changed-as row n octets b c h cells′ output′ e f = rw f e
+pub done-told : (row n m : ℕ) (octets o : List ℕ) (b c d : Bench) (cells output cells′ output′ : List ℕ) → n ≡ m → octets ≡ o → d ≡ c
+    → held c cells′ output′ ≡ changed row n octets (held b cells output) → held d cells′ output′ ≡ changed row m o (held b cells output)
+done-told row n m octets o b c d cells output cells′ output′ e f g h = rw (g, ← e, ← f) h
 
 -- ---- putting a slot
 pub put-told : (b b′ : Bench) (i : ℕ) (x : Slot) (q : Record) (z : Heard) → q ≡ withSlots (b .«record») (set (b .«record» .slots) i x)
@@ -184,12 +178,12 @@ module _ (line : List ℕ) (b : Bench) (cells output : List ℕ) (z : Heard) (t 
       pub leaves-slot : l .row ≡ 13 → SlotPut (gathered l line′) b z → Leaves line b cells output z cells output
       leaves-slot g p = rule.slot (sym is ∙ e) (rw (yes, ← row-is) (eq-eqb (l .row) 13 g)) (rw (r .is) at p) refl refl
 
-      pub leaves-other : (octets cells′ output′ : List ℕ) → (l .row ≡ 13 → ⊥) → octets ≡ take (l .end) line′ → z .understood ≡ true
-          → held (z .bench) cells′ output′ ≡ changed (l .row) (getD (l .values) 0 0) octets (held b cells output)
+      pub leaves-other : (cells′ output′ : List ℕ) → (l .row ≡ 13 → ⊥) → z .understood ≡ true
+          → held (z .bench) cells′ output′ ≡ changed (l .row) (getD (l .values) 0 0) (take (l .end) line′) (held b cells output)
           → Leaves line b cells output z cells′ output′
-      leaves-other octets cells′ output′ g o h k =
+      leaves-other cells′ output′ g h k =
           let values-is : l .values ≡ lineRead line .values = ap (λ (s : Gathered). s .values) (r .is) in
-          let octets-is : octets ≡ lineRead line .octets = o ∙ ap (λ (s : Gathered). s .octets) (r .is) in
+          let octets-is : take (l .end) line′ ≡ lineRead line .octets = ap (λ (s : Gathered). s .octets) (r .is) in
           rule.other (sym is ∙ e) (rw (yes, ← row-is) (ne-eqb (l .row) 13 g)) (h ∙ sym yes) (rw (yes, ← row-is, ← values-is, ← octets-is) k)
 
 -- a line that is understood may write to the buffer; one that is not has not
@@ -220,8 +214,7 @@ pub ruleset steps = (
   changed-fresh,
   changed-fills,
   changed-notes,
-  changed-none,
-  changed-as,
+  done-told,
   put-told,
   slot-put,
   slot-kept,

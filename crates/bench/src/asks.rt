@@ -1,4 +1,6 @@
 // Lines that leave what is held as it is: questions, and calls that need no record.
+use crate::changes::Made;
+use crate::changes::fill;
 use answers::Row;
 use answers::record;
 use answers::rows;
@@ -27,9 +29,10 @@ fn name_of(row: usize) -> u64 {
 
 // Octets of a buffer.
 fn part(l: Line) -> Row {
+    let values = l.values;
     let sort = 12 + ((l.row % 3 + 2) % 3) as u64;
-    let from = narrow(l.values[0]);
-    rows::one(name_of(l.row), sort, from * 65536 + narrow(l.values[1]))
+    let from = narrow(values[0]);
+    rows::one(name_of(l.row), sort, from * 65536 + narrow(values[1]))
 }
 
 // Whether the record is well formed.
@@ -40,14 +43,23 @@ fn formed(r: Record) -> Row {
     rows::plain(rows::NO)
 }
 
-fn told(l: Line, octets: &[u8], size: usize, buffer: &mut [u8]) -> Row {
-    if l.row < table::BUFFER + 1 {
+// What a line answers, the record's and the packets' apart. A line that fills fills the buffer too.
+fn told(l: Line, octets: &[u8], made: Made, buffer: &mut [u8]) -> Row {
+    if l.row == table::FILL {
+        fill(buffer, lines::octet(octets, 0));
+        return made.row;
+    }
+    if l.row <= table::SLOT {
+        return made.row;
+    }
+    if l.row <= table::BUFFER {
         return part(l);
     }
-    if table::READ_COMMAND - 1 < l.row {
+    if table::READ_COMMAND <= l.row {
         return lines::arrival(l.row, octets);
     }
-    lines::make(l, octets, size, buffer)
+    let lent = made.bench.lent;
+    lines::make(l, octets, lent[2], buffer)
 }
 
 // Prints the answer of a question on the record.
@@ -58,37 +70,23 @@ fn of_record(row: usize, r: Record, text: &mut [u8], at: usize) -> usize {
     record::alone(formed(r), text, at)
 }
 
-// Prints the answer of a line on octets.
-fn of_octets(
+// Prints the answer of a line, with what was made of it.
+pub(crate) fn say(
     l: Line,
     octets: &[u8],
-    size: usize,
+    made: Made,
     cells: &[u8],
     output: &[u8],
     buffer: &mut [u8],
     text: &mut [u8],
     at: usize,
 ) -> usize {
-    if (table::COMMAND - 1 < l.row) & (l.row < table::SHOW_CIPHERED + 1) {
+    if (table::SLOT < l.row) & (l.row < table::CELLS) {
+        return of_record(l.row, made.bench.record, text, at);
+    }
+    if (table::COMMAND <= l.row) & (l.row <= table::SHOW_CIPHERED) {
         return lines::say_packet(l.row, octets, text, at);
     }
-    let row = told(l, octets, size, buffer);
+    let row = told(l, octets, made, buffer);
     answers::print(row, cells, output, buffer, text, at)
-}
-
-// Prints the answer of a line that leaves all as it is, the buffer apart.
-pub(crate) fn ask(
-    l: Line,
-    octets: &[u8],
-    b: crate::Bench,
-    cells: &[u8],
-    output: &[u8],
-    buffer: &mut [u8],
-    text: &mut [u8],
-    at: usize,
-) -> usize {
-    if l.row < table::CELLS {
-        return of_record(l.row, b.record, text, at);
-    }
-    of_octets(l, octets, b.lent[2], cells, output, buffer, text, at)
 }

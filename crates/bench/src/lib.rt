@@ -8,7 +8,7 @@ use words::line::Line;
 use words::table;
 ghost use mathlib.Core.Path.{_≡_};
 ghost use mathlib.Core.Bool.{true, false};
-ghost use lib.ListN.{getD};
+ghost use lib.ListN.{getD, take};
 ghost use Rattle.bench.specs.Lines.{atStart, held, changed, Leaves, Untouched};
 
 // What is held beside the buffers: the record, how many octets of cells, output and buffer are lent (`RIGHT` stands for the right number), and
@@ -58,40 +58,17 @@ pub(crate) fn unanswered(b: Bench, at: usize) -> Heard
     }
 }
 
-// Fills the buffer if the line says so.
-fn spread(row: usize, octets: &[u8], buffer: &mut [u8]) {
-    if row == table::FILL {
-        changes::fill(buffer, lines::octet(octets, 0));
-    }
-}
-
-// Changes what is held as a line asks, and prints its answer.
-fn change(
-    l: Line,
-    octets: &[u8],
-    b: Bench,
-    cells: &mut [u8],
-    output: &mut [u8],
-    buffer: &mut [u8],
-    text: &mut [u8],
-    at: usize,
-) -> Heard
-    ensures { λ r. ⌜ (r .understood ≡ true) × (held (r .bench) (now (cells .exit)) (now (output .exit)) ≡ changed (l .row) (getD (l .values) 0 0) (now (octets .entry)) (held b (now (cells .entry)) (now (output .entry)))) ⌝ }
+// The first number of a line.
+pub(crate) fn first(values: [u64; 8]) -> usize
+    ensures { λ r. ⌜ r ≡ getD values 0 0 ⌝ }
 {
-    let n = l.values[0] as usize;
-    let made = changes::change(l.row, n, octets, b, cells, output);
-    spread(l.row, octets, buffer);
-    let after = made.bench;
-    answered(
-        after,
-        answers::print(made.row, cells, output, buffer, text, at),
-    )
+    values[0] as usize
 }
 
 // Makes the call that a line asks for, one that puts no slot, and prints its answer.
 fn done(
     l: Line,
-    octets: &[u8],
+    line: &[u8],
     b: Bench,
     cells: &mut [u8],
     output: &mut [u8],
@@ -99,12 +76,13 @@ fn done(
     text: &mut [u8],
     at: usize,
 ) -> Heard
-    ensures { λ r. ⌜ (r .understood ≡ true) × (held (r .bench) (now (cells .exit)) (now (output .exit)) ≡ changed (l .row) (getD (l .values) 0 0) (now (octets .entry)) (held b (now (cells .entry)) (now (output .entry)))) ⌝ }
+    ensures { λ r. ⌜ (r .understood ≡ true) × (held (r .bench) (now (cells .exit)) (now (output .exit)) ≡ changed (l .row) (getD (l .values) 0 0) (take (l .end) (now (line .entry))) (held b (now (cells .entry)) (now (output .entry)))) ⌝ }
 {
-    if table::SLOT < l.row {
-        return answered(b, asks::ask(l, octets, b, cells, output, buffer, text, at));
-    }
-    change(l, octets, b, cells, output, buffer, text, at)
+    let octets = skelmarix::up_to(line, l.end);
+    let values = l.values;
+    let made = changes::change(l.row, first(values), octets, b, cells, output);
+    let end = asks::say(l, octets, made, cells, output, buffer, text, at);
+    answered(made.bench, end)
 }
 
 // Answers a line behind what stands in the text up to `at`. The line's octets are read to its own start.
@@ -130,6 +108,5 @@ pub fn answer(
     if l.row == table::SLOT {
         return slots::slot_line(b, l, line, text, at);
     }
-    let octets = skelmarix::up_to(line, l.end);
-    done(l, octets, b, cells, output, buffer, text, at)
+    done(l, line, b, cells, output, buffer, text, at)
 }

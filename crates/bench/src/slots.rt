@@ -66,23 +66,23 @@ fn parts_in(line: &[u8], from: usize) -> Parts {
 
 // ---- the slot
 // SENDER, SERIAL and IDENTIFIER are the first eight octets of the line.
-fn key_of(l: Line, fields: &[u8]) -> Key {
+fn key_of(values: [u64; 8], fields: &[u8]) -> Key {
     Key {
         sender: lines::sender_of(fields),
-        width: (l.values[3] % 256) as u8,
-        reference: (l.values[4] % 65536) as u16,
+        width: (values[3] % 256) as u8,
+        reference: (values[4] % 65536) as u16,
         serial: types::SerialNumber(pair_at(fields, 4)),
         identifier: types::MessageIdentifier(pair_at(fields, 6)),
     }
 }
 
-fn slot_of(l: Line, fields: &[u8], p: Parts) -> Slot {
+fn slot_of(values: [u64; 8], fields: &[u8], p: Parts) -> Slot {
     let lengths = p.lengths;
     let held = p.held;
     Slot {
-        rank: (l.values[1] % 256) as u8,
-        key: key_of(l, fields),
-        total: (l.values[7] % 256) as u8,
+        rank: (values[1] % 256) as u8,
+        key: key_of(values, fields),
+        total: (values[7] % 256) as u8,
         lengths: lengths,
         held: held,
     }
@@ -120,10 +120,11 @@ pub(crate) fn slot_line(b: Bench, l: Line, line: &[u8], text: &mut [u8], at: usi
     ensures { λ r. ⌜ SlotPut (gathered l (now (line .entry))) b r ⌝ }
 {
     let parts = parts_in(line, l.at);
-    let i = l.values[0] as usize;
+    let values = l.values;
+    let i = crate::first(values);
     if i < types::SLOTS {
         if parts.understood {
-            return put(b, i, slot_of(l, line, parts), text, at);
+            return put(b, i, slot_of(values, line, parts), text, at);
         }
     }
     crate::unanswered(b, at)

@@ -8,12 +8,11 @@ returns-4 c =
     search (
       steps,
       c .before .before .before .before .before .before .before .before .done,
-      c .before .before .before .before .before .before .before .before .before .before .before .before .before .up-to,
-      c .before .before .before .before .before .before .before .before .before .before .before .before .before .before .before .if3,
-      c .before .before .before .before .before .before .before .before .before .before .before .before .before .before .before .before .before .if2,
-      c .before .before .before .before .before .before .before .before .before .before .before .before .before .before .before .before .before .before .before .before .before .read,
-      c .before .before .before .before .before .before .before .before .before .before .before .before .before .before .before .before .before .before .before .before .before .before .before .if1,
-      c .before .before .before .before .before .before .before .before .before .before .before .before .before .before .before .before .before .before .before .before .before .before .before .before .is-silent,
+      c .before .before .before .before .before .before .before .before .before .before .before .before .before .before .if3,
+      c .before .before .before .before .before .before .before .before .before .before .before .before .before .before .before .before .if2,
+      c .before .before .before .before .before .before .before .before .before .before .before .before .before .before .before .before .before .before .before .before .read,
+      c .before .before .before .before .before .before .before .before .before .before .before .before .before .before .before .before .before .before .before .before .before .before .if1,
+      c .before .before .before .before .before .before .before .before .before .before .before .before .before .before .before .before .before .before .before .before .before .before .before .is-silent,
     )
 
 pub answer-spec : {M : Type 1} → statement M
@@ -21,5 +20,4 @@ answer-spec =
     tie.close
     (tie.spec (λ c κs. search steps) (λ c κs. search steps) (λ c. search steps) (λ c. search steps) (λ c κs. search steps) (λ c κs. search steps)
     (λ c. search steps) (λ c. search steps) (λ c κs. search steps) (λ c. search steps) (λ c. search steps) (λ c. search steps)
-    (λ c κs. search steps) (λ c κs. search steps) (λ c. search steps) (λ c. search steps) (λ c. search steps) (λ c. search steps)
-    (λ c. search steps) returns-4)
+    (λ c κs. search steps) (λ c. search steps) (λ c. search steps) (λ c. search steps) (λ c. search steps) (λ c. search steps) returns-4)

@@ -1,4 +1,4 @@
--- The lines past `slot` leave all as it is. Assumes nothing.
+-- What is printed changes nothing. Assumes nothing.
 use Rattle.bench.proofs.Steps.{steps}
 use Rattle.bench.proofs.done.Statement.{statement}
 use Rattle.bench.proofs.done.Tie as tie
@@ -6,5 +6,5 @@ use Rattle.bench.proofs.done.Tie as tie
 pub done-spec : {M : Type 1} → statement M
 done-spec =
     tie.close
-    (tie.spec (λ c κs. search steps) (λ c κs. search steps) (λ c. search steps) (λ c. search steps) (λ c. search steps) (λ c. search steps)
-    (λ c. search steps) (λ c κs. search steps) (λ c. search steps) (λ c. search steps) (λ c. search steps) (λ c. search steps) (λ c. search steps))
+    (tie.spec (λ c κs. search steps) (λ c κs. search steps) (λ c κs. search steps) (λ c κs. search steps) (λ c κs. search steps)
+    (λ c. search steps) (λ c. search steps) (λ c. search steps) (λ c. search steps) (λ c. search steps))
