@@ -19,13 +19,15 @@ struct Tally {
     // how many lines were read, and how many of them were not understood or too long
     lines: u64,
     wrong: u64,
-    // how many characters stand at the start of the piece of a line whose end was not read yet
-    kept: usize,
+    // where the line to come begins in the piece, and how many characters stand there
+    from: usize,
+    count: usize,
     // whether more than fit were read of that line, so that it is passed, and whether it is a comment
     long: bool,
     comment: bool,
-    // where the text ends that is not written yet
+    // where the text ends that is not written yet, and where the answer of a line begins, behind its number
     end: usize,
+    at: usize,
     // what is read, and which word of the call names what is read next
     fd: i32,
     next: usize,
@@ -60,106 +62,48 @@ fn written(t: Tally, text: &[u8]) -> Tally {
     u
 }
 
-// The next line: room for its answer, and its number.
-fn next(t: Tally, text: &[u8]) -> Tally {
+// The line that ends at a place: room for its answer, and its number.
+fn next(t: Tally, end: usize, text: &[u8]) -> Tally {
     let mut u = t;
     if NEARLY < t.end {
         u = written(t, text);
     }
+    u.from = std::num::wrapping_add_usize(end, 1);
     u.lines = std::num::wrapping_add_u64(t.lines, 1);
+    u.at = u.end;
     u
 }
 
 // ---- a line
-// A line without the carriage return that some files have before its end.
-fn without_return(line: &mut [u8]) -> &mut [u8] {
-    let n = line.len();
-    if n == 0 {
-        return line;
-    }
-    let last = n - 1;
-    if line[last] == 13 {
-        return &mut line[0..last];
-    }
-    line
-}
-
-// Where the answer of a line begins: behind the line's number, if answers are numbered.
-fn begin(numbered: bool, t: Tally, text: &mut [u8]) -> usize {
+// Begins the answer of a line: with the line's number, if answers are numbered.
+fn begin(t: Tally, end: usize, numbered: bool, text: &mut [u8]) -> Tally {
+    let mut u = next(t, end, text);
     if !numbered {
-        return t.end;
+        return u;
     }
-    let at = answers::number(t.lines, text, t.end);
-    answers::say(b" ", text, at)
+    let at = answers::number(u.lines, text, u.end);
+    u.at = answers::say(b" ", text, at);
+    u
 }
 
 // A line with which something is the matter is counted, and its answer says what.
-fn trouble(t: Tally, what: &[u8], text: &mut [u8], at: usize) -> Tally {
+fn trouble(t: Tally, what: &[u8], text: &mut [u8]) -> Tally {
     let mut u = t;
     u.wrong = std::num::wrapping_add_u64(t.wrong, 1);
-    u.end = answers::trouble(t.lines, what, text, at);
+    u.end = answers::trouble(t.lines, what, text, t.at);
     u
 }
 
-// What the bench made of a line whose answer begins at a place: there is none if it ends there.
-fn heard(t: Tally, understood: bool, end: usize, text: &mut [u8], at: usize) -> Tally {
+// What the bench made of a line: there is no answer if it ends where it begins.
+fn heard(t: Tally, understood: bool, end: usize, text: &mut [u8]) -> Tally {
     if !understood {
-        return trouble(t, b": not understood", text, at);
+        return trouble(t, b": not understood", text);
     }
     let mut u = t;
-    if end != at {
+    if end != t.at {
         u.end = answers::end(text, end);
     }
     u
-}
-
-// Answers a line.
-fn answer(
-    line: &mut [u8],
-    b: Bench,
-    t: Tally,
-    cells: &mut [u8],
-    output: &mut [u8],
-    buffer: &mut [u8],
-    text: &mut [u8],
-    at: usize,
-) -> Session {
-    let h = bench::answer(line, b, cells, output, buffer, text, at);
-    let after = h.bench;
-    Session {
-        bench: after,
-        tally: heard(t, h.understood, h.end, text, at),
-    }
-}
-
-// Passes a line that is too long. A comment has no answer, however long it is.
-fn pass(t: Tally, comment: bool, text: &mut [u8], at: usize) -> Tally {
-    let mut u = t;
-    u.long = false;
-    if comment {
-        return u;
-    }
-    trouble(u, b": too long", text, at)
-}
-
-// Takes a line that has ended.
-fn take(
-    line: &mut [u8],
-    s: Session,
-    cells: &mut [u8],
-    output: &mut [u8],
-    buffer: &mut [u8],
-    text: &mut [u8],
-) -> Session {
-    let t = next(s.tally, text);
-    let b = s.bench;
-    let at = begin(b.numbered, t, text);
-    let shown = without_return(line);
-    if t.long | (MOST < shown.len()) {
-        let comment = is_passed(t, shown);
-        return with_tally(s, pass(t, comment, text, at));
-    }
-    answer(shown, b, t, cells, output, buffer, text, at)
 }
 
 // Whether a line that is too long is a comment, of which the start may be gone.
@@ -171,13 +115,81 @@ fn is_passed(t: Tally, line: &[u8]) -> bool {
     }
 }
 
+// Passes a line that is too long. A comment has no answer, however long it is.
+fn pass(t: Tally, line: &[u8], text: &mut [u8]) -> Tally {
+    let mut u = t;
+    u.long = false;
+    if is_passed(t, line) {
+        return u;
+    }
+    trouble(u, b": too long", text)
+}
+
+// Takes a line that has ended, at a place of the piece.
+fn take(
+    line: &mut [u8],
+    end: usize,
+    s: Session,
+    cells: &mut [u8],
+    output: &mut [u8],
+    buffer: &mut [u8],
+    text: &mut [u8],
+) -> Session {
+    let b = s.bench;
+    let t = begin(s.tally, end, b.numbered, text);
+    if t.long | (MOST < line.len()) {
+        return with_tally(s, pass(t, line, text));
+    }
+    let h = bench::answer(line, b, cells, output, buffer, text, t.at);
+    let after = h.bench;
+    Session {
+        bench: after,
+        tally: heard(t, h.understood, h.end, text),
+    }
+}
+
 // ---- input
-// The next end of a line; the end of the piece if there is none.
-fn end_of(piece: &[u8], from: usize) -> usize
-    requires { ⌜ from ≤ length (now piece) ⌝ }
+// A line in the piece: from where to where it is, without the carriage return that some files have before its end, and where its end stands.
+struct Span {
+    from: usize,
+    last: usize,
+    end: usize,
+}
+
+fn without_return(piece: &[u8], from: usize, end: usize) -> usize
+    requires { ⌜ (from ≤ end) × (end ≤ length (now piece)) ⌝ }
     ensures { λ r. ⌜ (from ≤ r) × (r ≤ length (now (piece .entry))) ⌝ }
 {
-    bytes::scan::find(piece, from, piece.len(), 10)
+    if from < end {
+        if piece[end - 1] == 13 {
+            return end - 1;
+        }
+    }
+    end
+}
+
+// The next line. If none ends in the piece, its end is where the characters end.
+fn next_line(piece: &[u8], t: Tally) -> Span
+    ensures { λ r. ⌜ (r .from ≤ r .last) × (r .last ≤ length (now (piece .entry))) ⌝ }
+{
+    let from = t.from;
+    let count = t.count;
+    if from <= count {
+        if count <= piece.len() {
+            let end = bytes::scan::find(piece, from, count, 10);
+            let last = without_return(piece, from, end);
+            return Span {
+                from: from,
+                last: last,
+                end: end,
+            };
+        }
+    }
+    Span {
+        from: 0,
+        last: 0,
+        end: count,
+    }
 }
 
 // Moves what stands from a place on to the start.
@@ -191,48 +203,20 @@ fn slide(piece: &mut [u8], from: usize) {
     }
 }
 
-// Keeps the start of a line that did not end, which begins at a place; the start of one that is too long is gone.
-fn keep(from: usize, piece: &mut [u8], t: Tally) -> Tally {
-    let rest = skelmarix::own_octets(piece, from);
-    let count = rest.len();
+// Keeps the start of a line that did not end; the start of one that is too long is gone.
+fn keep(t: Tally, piece: &mut [u8]) -> Tally {
+    let rest = skelmarix::own_octets(skelmarix::up_to(piece, t.count), t.from);
     let mut u = t;
-    u.kept = count;
-    if t.long | (MOST + 1 < count) {
+    u.from = 0;
+    u.count = rest.len();
+    if t.long | (MOST + 1 < u.count) {
         u.comment = is_passed(t, rest);
         u.long = true;
-        u.kept = 0;
+        u.count = 0;
         return u;
     }
-    slide(piece, from);
+    slide(piece, t.from);
     u
-}
-
-// The session where a piece is used up: a line that does not end in it begins at a place. The answers are written.
-fn stopped(s: Session, from: usize, piece: &mut [u8], text: &[u8]) -> Session {
-    let t = keep(from, piece, s.tally);
-    with_tally(s, written(t, text))
-}
-
-// Takes the lines that end in a piece of input.
-fn feed(
-    piece: &mut [u8],
-    s: Session,
-    cells: &mut [u8],
-    output: &mut [u8],
-    buffer: &mut [u8],
-    text: &mut [u8],
-) -> Session {
-    let mut s = s;
-    let mut from = 0;
-    while from < piece.len() {
-        let end = end_of(piece, from);
-        if end == piece.len() {
-            return stopped(s, from, piece, text);
-        }
-        s = take(&mut piece[from..end], s, cells, output, buffer, text);
-        from = end + 1;
-    }
-    stopped(s, from, piece, text)
 }
 
 // ---- words and files
@@ -286,10 +270,12 @@ fn first(word: usize) -> Tally {
     let t = Tally {
         lines: 0,
         wrong: 0,
-        kept: 0,
+        from: 0,
+        count: 0,
         long: false,
         comment: false,
         end: 0,
+        at: 0,
         fd: STDIN_FILENO,
         next: word,
         more: true,
@@ -302,57 +288,62 @@ fn first(word: usize) -> Tally {
 }
 
 // The end of an input. A last line may lack its end: it gets one.
-fn ended(t: Tally, piece: &mut [u8]) -> usize
-    ensures { λ r. ⌜ r ≤ length (now (piece .entry)) ⌝ }
-{
+fn ended(t: Tally, piece: &mut [u8]) -> Tally {
     libc::close(t.fd);
-    let at = t.kept;
+    let mut u = after(t);
+    let at = t.count;
+    u.count = 0;
     if at < piece.len() {
         if (at != 0) | t.long {
             piece[at] = 10;
-            return at + 1;
+            u.count = at + 1;
+            return u;
         }
     }
-    0
+    u
 }
 
-// What reading came to: how many characters stand in the piece then, and what is told of the input.
-struct Got {
-    count: usize,
-    tally: Tally,
+// Nothing more is read or written.
+fn failed(t: Tally) -> Tally {
+    let mut u = t;
+    u.count = 0;
+    u.well = false;
+    u
 }
 
 // Reads behind the characters that are kept.
-fn read(t: Tally, piece: &mut [u8]) -> Got
-    ensures { λ r. ⌜ r .count ≤ length (now (piece .entry)) ⌝ }
-{
-    let kept = t.kept;
-    let mut u = t;
+fn read(t: Tally, piece: &mut [u8]) -> Tally {
+    let kept = t.count;
     if piece.len() < kept {
-        u.well = false;
-        return Got { count: 0, tally: u };
+        return failed(t);
     }
     let room = &mut piece[kept..];
     let got = libc::read(t.fd, room);
     let n = io::count(got, room);
     if got < 0 {
         os::fail(b"replay: read");
-        u.well = false;
-        return Got { count: 0, tally: u };
+        return failed(t);
     }
     if n == 0 {
-        return Got {
-            count: ended(t, piece),
-            tally: after(t),
-        };
+        return ended(t, piece);
     }
-    Got {
-        count: kept + n,
-        tally: u,
-    }
+    let mut u = t;
+    u.count = kept + n;
+    u
 }
 
-// Reads a piece of input and answers the lines that end in it.
+// Where no line ends in what is left of the piece: that is kept, the answers are written, and more is read.
+fn refill(t: Tally, piece: &mut [u8], text: &[u8]) -> Tally {
+    let kept = keep(t, piece);
+    let mut u = written(kept, text);
+    if u.more & u.well {
+        return read(u, piece);
+    }
+    u.count = 0;
+    u
+}
+
+// Takes a line of the piece, or reads on.
 fn turn(
     s: Session,
     piece: &mut [u8],
@@ -361,28 +352,39 @@ fn turn(
     buffer: &mut [u8],
     text: &mut [u8],
 ) -> Session {
-    let got = read(s.tally, piece);
-    let n = got.count;
-    let ready = with_tally(s, got.tally);
-    feed(&mut piece[0..n], ready, cells, output, buffer, text)
+    let t = s.tally;
+    let line = next_line(piece, t);
+    if t.count <= line.end {
+        return with_tally(s, refill(t, piece, text));
+    }
+    let from = line.from;
+    let last = line.last;
+    take(
+        &mut piece[from..last],
+        line.end,
+        s,
+        cells,
+        output,
+        buffer,
+        text,
+    )
 }
 
-// Whether there is something to do.
+// Whether there is something to do: more to read, or characters that were read.
 fn goes_on(t: Tally) -> bool {
-    t.more & t.well
+    (t.more & t.well) | (t.count != 0)
 }
 
 // Reads to the end of the last input, and says how many lines were not understood or too long. A proved loop has to end, and nothing says
 // that input does: so it counts its turns down, from a number that no run uses up.
 fn read_all(
-    s: Session,
+    mut s: Session,
     piece: &mut [u8],
     cells: &mut [u8],
     output: &mut [u8],
     buffer: &mut [u8],
     text: &mut [u8],
 ) -> u64 {
-    let mut s = s;
     let mut turns = u64::MAX;
     while turns > 0 {
         let t = s.tally;

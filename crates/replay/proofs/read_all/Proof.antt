@@ -6,11 +6,11 @@ use Rattle.replay.proofs.read_all.Statement.{statement}
 use Rattle.replay.proofs.read_all.Tie as tie
 
 abbrev Inv-loop : tie.InvT-loop
-Inv-loop piece₀ cells₀ output₀ buffer₀ text₀ s₀ turns₀ piece cells output buffer text s turns =
+Inv-loop s₀ piece₀ cells₀ output₀ buffer₀ text₀ turns₀ s piece cells output buffer text turns =
     (length piece ≡ length piece₀) × (length cells ≡ length cells₀) × (length output ≡ length output₀) × (length buffer ≡ length buffer₀) × (length text ≡ length text₀)
 
 abbrev μ-loop : tie.MeasureT-loop
-μ-loop piece₀ cells₀ output₀ buffer₀ text₀ s₀ turns₀ piece cells output buffer text s turns = turns
+μ-loop s₀ piece₀ cells₀ output₀ buffer₀ text₀ turns₀ s piece cells output buffer text turns = turns
 
 pub read-all-spec : {M : Type 1} → statement M
 read-all-spec =
