@@ -1,16 +1,21 @@
 // Lines that leave record and cells alone: calls on packets, arrivals and parts. Each is told by its row of the table, and its octets stand one
 // word's behind the other's.
+mod asks;
 mod build;
 mod packets;
 mod parts;
+mod slots;
 
 use answers::Row;
 use answers::rows;
+pub use asks::of_record;
+pub use asks::part;
 pub use packets::say_packet;
 pub use parts::arrival;
 pub use parts::kind_of;
-pub use parts::pair_at;
 pub use parts::sender_of;
+pub use slots::say_slot;
+pub use slots::slot_of;
 use types::MOST_OCTETS;
 use words::line::Line;
 use words::table;

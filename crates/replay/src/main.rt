@@ -5,8 +5,6 @@ use bench::Bench;
 use libc::STDERR_FILENO;
 use libc::STDIN_FILENO;
 use libc::STDOUT_FILENO;
-ghost use Prim.Native.Nat.{_≤_};
-ghost use lib.ListN.{length};
 
 // The most characters of a line.
 const MOST: usize = 9000;
@@ -149,60 +147,6 @@ fn take(
 }
 
 // ---- input
-// A line in the piece: from where to where it is, without the carriage return that some files have before its end, and where its end stands.
-struct Span {
-    from: usize,
-    last: usize,
-    end: usize,
-}
-
-fn without_return(piece: &[u8], from: usize, end: usize) -> usize
-    requires { ⌜ (from ≤ end) × (end ≤ length (now piece)) ⌝ }
-    ensures { λ r. ⌜ (from ≤ r) × (r ≤ length (now (piece .entry))) ⌝ }
-{
-    if from < end {
-        if piece[end - 1] == 13 {
-            return end - 1;
-        }
-    }
-    end
-}
-
-// The next line. If none ends in the piece, its end is where the characters end.
-fn next_line(piece: &[u8], t: Tally) -> Span
-    ensures { λ r. ⌜ (r .from ≤ r .last) × (r .last ≤ length (now (piece .entry))) ⌝ }
-{
-    let from = t.from;
-    let count = t.count;
-    if from <= count {
-        if count <= piece.len() {
-            let end = bytes::scan::find(piece, from, count, 10);
-            let last = without_return(piece, from, end);
-            return Span {
-                from: from,
-                last: last,
-                end: end,
-            };
-        }
-    }
-    Span {
-        from: 0,
-        last: 0,
-        end: count,
-    }
-}
-
-// Moves what stands from a place on to the start.
-fn slide(piece: &mut [u8], from: usize) {
-    let mut i = from;
-    let mut to = 0;
-    while i < piece.len() {
-        piece[to] = piece[i];
-        i += 1;
-        to += 1;
-    }
-}
-
 // Keeps the start of a line that did not end; the start of one that is too long is gone.
 fn keep(t: Tally, piece: &mut [u8]) -> Tally {
     let rest = skelmarix::own_octets(skelmarix::up_to(piece, t.count), t.from);
@@ -215,7 +159,7 @@ fn keep(t: Tally, piece: &mut [u8]) -> Tally {
         u.count = 0;
         return u;
     }
-    slide(piece, t.from);
+    words::piece::slide(piece, t.from);
     u
 }
 
@@ -353,7 +297,7 @@ fn turn(
     text: &mut [u8],
 ) -> Session {
     let t = s.tally;
-    let line = next_line(piece, t);
+    let line = words::piece::next_line(piece, t.from, t.count);
     if t.count <= line.end {
         return with_tally(s, refill(t, piece, text));
     }

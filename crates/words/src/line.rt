@@ -195,12 +195,12 @@ pub fn is_silent(line: &[u8]) -> bool
 
 // ---- the parts of a slot
 // What a word says of a part, `NUMBER:LENGTH` or `NUMBER=LENGTH`, and the place behind it.
-pub struct Part {
-    pub good: bool,
-    pub held: bool,
-    pub number: u64,
-    pub length: u64,
-    pub at: usize,
+struct Part {
+    good: bool,
+    held: bool,
+    number: u64,
+    length: u64,
+    at: usize,
 }
 
 fn no_part(at: usize) -> Part {
@@ -214,7 +214,7 @@ fn no_part(at: usize) -> Part {
 }
 
 // Whether there is no word from a place on.
-pub fn is_done(line: &[u8], from: usize) -> bool {
+fn is_done(line: &[u8], from: usize) -> bool {
     if line.len() < from {
         return true;
     }
@@ -238,7 +238,7 @@ fn with_length(line: &[u8], at: usize, number: u64, held: bool) -> Part {
 }
 
 // The next part from a place on.
-pub fn part_at(line: &[u8], from: usize) -> Part {
+fn part_at(line: &[u8], from: usize) -> Part {
     if line.len() < from {
         return no_part(from);
     }
@@ -251,4 +251,52 @@ pub fn part_at(line: &[u8], from: usize) -> Part {
         }
     }
     no_part(at)
+}
+
+// How many parts a slot has.
+const PARTS: usize = 16;
+
+// The parts read so far, and which numbers were given.
+pub struct Parts {
+    pub understood: bool,
+    pub lengths: [u8; PARTS],
+    pub held: [bool; PARTS],
+    given: [bool; PARTS],
+}
+
+// One part more; a number counts once.
+fn with_part(p: Parts, part: Part) -> Parts {
+    let mut q = p;
+    let i = ((part.number % 32 + 15) % 16) as usize;
+    q.understood = part.good & !p.given[i];
+    q.given[i] = true;
+    q.held[i] = part.held;
+    q.lengths[i] = (part.length % 256) as u8;
+    q
+}
+
+fn no_parts() -> Parts {
+    Parts {
+        understood: true,
+        lengths: [0; PARTS],
+        held: [false; PARTS],
+        given: [false; PARTS],
+    }
+}
+
+// The parts from a place on: no more than there are numbers.
+pub fn parts_in(line: &[u8], from: usize) -> Parts {
+    let mut p = no_parts();
+    let mut at = from;
+    let mut i: usize = 0;
+    while i < PARTS + 1 {
+        if is_done(line, at) | !p.understood {
+            return p;
+        }
+        let part = part_at(line, at);
+        at = part.at;
+        p = with_part(p, part);
+        i += 1;
+    }
+    p
 }

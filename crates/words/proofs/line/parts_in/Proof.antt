@@ -1,8 +1,8 @@
 -- A turn passes a part. Assumes nothing.
 use Prim.Native.Nat.{_-_, _≤_}
-use Rattle.bench.proofs.Steps.{steps}
-use Rattle.bench.proofs.slots.parts_in.Statement.{statement}
-use Rattle.bench.proofs.slots.parts_in.Tie as tie
+use Rattle.words.proofs.Steps.{steps}
+use Rattle.words.proofs.line.parts_in.Statement.{statement}
+use Rattle.words.proofs.line.parts_in.Tie as tie
 
 abbrev Inv-loop : tie.InvT-loop
 Inv-loop line from p₀ at₀ i₀ p at i = i ≤ 17
