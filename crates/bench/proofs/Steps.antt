@@ -1,7 +1,7 @@
 -- What the proofs of `bench` cite: one law for each return, over plain variables.
 use Prim.Native.Nat.{ℕ, zero, suc, _+_, _-_, _≤_, _<_}
 use mathlib.Core.Path.{_≡_, refl, sym, ap, _∙_}
-use mathlib.Core.Bool.{Bool, true, false, not, _&&_}
+use mathlib.Core.Bool.{Bool, true, false, not, cond, _&&_}
 use mathlib.Core.List.{List, [], _∷_, _++_}
 use native.Mathlib.Omega.{arith}
 use native.Mathlib.Numerals.{add-one}
@@ -9,7 +9,7 @@ use lib.ListN.{length, take, drop, getD, set, replicate, length-set}
 use lib.Seq.{take-suc-set, take-length}
 use lib.Dec.{eqb, ltb}
 use borrow.Author.Needs.{needs}
-use borrow.Author.Tests.{eq-eqb, ne-eqb, lt-ltb, le-ltb, ltb-true, not-true, not-false}
+use borrow.Author.Tests.{eq-eqb, ne-eqb, lt-ltb, le-ltb, ltb-true, ltb-false, not-true, not-false}
 use Rattle.types.specs.declared.Kind.{Kind}
 use Rattle.types.specs.declared.Kind.the-variants.{Command}
 use Rattle.types.specs.declared.Record.{Record}
@@ -114,6 +114,31 @@ module _ (row : ℕ) (e : (ltb 7 row && ltb row 11) ≡ true) where
   lends-high = omega (arith, lends-low, ltb-true row 11 (both (ltb 7 row) (ltb row 11) e .1))
 
 -- ---- by the row
+-- a line that fills, or brings a fresh record, by its row
+by-row : (row : ℕ) → row ≤ 6 → (octets : List ℕ) (fresh b other : Bench) (cells output : List ℕ)
+    → held (cond (ltb row 6) fresh b) (replicate (length cells) (cond (ltb row 6) 0 (getD octets 0 0))) (replicate (length output) (cond (ltb row 6) 0 (getD octets 0 0)))
+    ≡ cond (ltb row 6) (rule.filled (held b cells output) fresh 0) (cond (eqb row 6) (rule.filled (held b cells output) b (getD octets 0 0)) (held other cells output))
+by-row row m octets fresh b other cells output = go (ltb row 6) refl
+  where
+    go : (low : Bool) → ltb row 6 ≡ low
+        → held (cond (ltb row 6) fresh b) (replicate (length cells) (cond (ltb row 6) 0 (getD octets 0 0))) (replicate (length output) (cond (ltb row 6) 0 (getD octets 0 0)))
+        ≡ cond (ltb row 6) (rule.filled (held b cells output) fresh 0) (cond (eqb row 6) (rule.filled (held b cells output) b (getD octets 0 0)) (held other cells output))
+    go true e = rw e
+    go false e = rw (e, eq-eqb row 6 (omega (arith, m, ltb-false row 6 e)))
+
+module _ (row : ℕ) where
+  pub filler-none : (octets : List ℕ) → row < 6 → 0 ≡ cond (ltb row 6) 0 (getD octets 0 0)
+  filler-none octets l = rw (lt-ltb row 6 l)
+
+  pub filler-octet : (octets : List ℕ) (x : ℕ) → 6 ≤ row → x ≡ getD octets 0 0 → x ≡ cond (ltb row 6) 0 (getD octets 0 0)
+  filler-octet octets x l e = rw (le-ltb row 6 l) e
+
+  pub refreshed-new : (b c d : Bench) → row < 6 → c ≡ d → c ≡ cond (ltb row 6) d b
+  refreshed-new b c d l e = rw (lt-ltb row 6 l) e
+
+  pub refreshed-not : (b d : Bench) → 6 ≤ row → b ≡ cond (ltb row 6) d b
+  refreshed-not b d l = rw (le-ltb row 6 l)
+
 module _ (row n : ℕ) (octets : List ℕ) (b c : Bench) (cells output cells′ output′ : List ℕ) where
   pub changed-takes : row < 3 → held c cells′ output′ ≡ rule.taken (held b cells output) (rule.call row octets (rule.called (held b cells output)))
       → held c cells′ output′ ≡ changed row n octets (held b cells output)
@@ -121,20 +146,18 @@ module _ (row n : ℕ) (octets : List ℕ) (b c : Bench) (cells output cells′ 
   changed-takes l h = rw (lt-ltb row 3 l) h
 
   module _ (l : 3 ≤ row) where
-    module _ (x : ℕ) (cells-are : cells′ ≡ replicate (length cells) x) (output-is : output′ ≡ replicate (length output) x) where
-      pub changed-fresh : (b′ : Bench) → x ≡ 0 → row < 6 → b′ ≡ rule.withRecord b (freshRecord slotCount (kindBy (eqb row 5))) → c ≡ b′
+    module _ (x : ℕ) (d : Bench) (cells-are : cells′ ≡ replicate (length cells) x) (output-is : output′ ≡ replicate (length output) x) where
+      pub changed-fills : row ≤ 6 → x ≡ cond (ltb row 6) 0 (getD octets 0 0)
+          → d ≡ cond (ltb row 6) (rule.withRecord b (freshRecord slotCount (kindBy (eqb row 5)))) b → c ≡ d
           → held c cells′ output′ ≡ changed row n octets (held b cells output)
       unfolding changed
-      changed-fresh b′ z m e f = rw (le-ltb row 3 l, lt-ltb row 6 m, ← e, ← f, cells-are, output-is, z)
+      changed-fills m f g e =
+          rw (le-ltb row 3 l, e, g, cells-are, output-is, f) (by-row row m octets (rule.withRecord b (freshRecord slotCount (kindBy (eqb row 5)))) b (rule.noted row n b) cells output)
 
-      pub changed-fills : row ≡ 6 → x ≡ getD octets 0 0 → c ≡ b → held c cells′ output′ ≡ changed row n octets (held b cells output)
+    module _ (m : 6 < row) where
+      pub changed-notes : (d : Bench) → d ≡ rule.noted row n b → c ≡ d → held c cells output ≡ changed row n octets (held b cells output)
       unfolding changed
-      changed-fills e f g = rw (le-ltb row 3 l, le-ltb row 6 (omega arith), eq-eqb row 6 e, ← f, cells-are, output-is, g)
-
-    module _ (m : 6 ≤ row) where
-      pub changed-notes : (d : Bench) → (row ≡ 6 → ⊥) → d ≡ rule.noted row n b → c ≡ d → held c cells output ≡ changed row n octets (held b cells output)
-      unfolding changed
-      changed-notes d f e g = rw (le-ltb row 3 l, le-ltb row 6 m, ne-eqb row 6 f, ← e, g)
+      changed-notes d e g = rw (le-ltb row 3 l, le-ltb row 6 (omega (arith, m)), ne-eqb row 6 (λ z. omega (arith, z, m)), ← e, g)
 
 pub done-told : (row n m : ℕ) (octets o : List ℕ) (b c d : Bench) (cells output cells′ output′ : List ℕ) → n ≡ m → octets ≡ o → d ≡ c
     → held c cells′ output′ ≡ changed row n octets (held b cells output) → held d cells′ output′ ≡ changed row m o (held b cells output)
@@ -211,7 +234,10 @@ pub ruleset steps = (
   lends-low,
   lends-high,
   changed-takes,
-  changed-fresh,
+  filler-none,
+  filler-octet,
+  refreshed-new,
+  refreshed-not,
   changed-fills,
   changed-notes,
   done-told,

@@ -1,15 +1,15 @@
 // Lines that change what is held: taking, a fresh record, filling, lending, numbering.
 use crate::Bench;
 use answers::rows;
-use lines::lent;
 use types::Record;
 use words::table;
 ghost use mathlib.Core.Path.{_≡_};
-ghost use Prim.Native.Nat.{_<_};
-ghost use lib.ListN.{length, replicate, set};
-ghost use lib.Dec.{eqb};
+ghost use Prim.Native.Nat.{_<_, _≤_};
+ghost use mathlib.Core.Bool.{cond};
+ghost use lib.ListN.{length, getD, replicate, set};
+ghost use lib.Dec.{eqb, ltb};
 ghost use Rattle.skelmarix.specs.Rules.{state, after, toldAnswer, freshRecord, slotCount};
-ghost use Rattle.lines.specs.Lent.{kindBy};
+ghost use Rattle.lines.specs.Lent.{kindBy, lentOf};
 ghost use Rattle.bench.specs.Lines as rule;
 ghost use Rattle.bench.specs.Lines.{held, called, taken, changed, noted, withRecord};
 
@@ -57,11 +57,20 @@ fn call(row: usize, r: Record, octets: &[u8], cells: &mut [u8], output: &mut [u8
     skelmarix::take_page(r, octets, cells, output)
 }
 
+// How many octets of so many are lent of the cells, 0, or the output, 1.
+fn lent_of(b: Bench, i: usize, right: usize, all: usize) -> usize
+    requires { ⌜ i < 3 ⌝ }
+    ensures { λ r. ⌜ (r ≡ lentOf (getD (b .lent) i 0) right all) × (r ≤ all) ⌝ }
+{
+    let sizes = b.lent;
+    lines::lent(sizes[i], right, all)
+}
+
 fn take(row: usize, octets: &[u8], b: Bench, cells: &mut [u8], output: &mut [u8]) -> Made
     ensures { λ r. ⌜ held (r .bench) (now (cells .exit)) (now (output .exit)) ≡ taken (held b (now (cells .entry)) (now (output .entry))) (rule.call row (now (octets .entry)) (called (held b (now (cells .entry)) (now (output .entry))))) ⌝ }
 {
-    let n = lent(b.lent[0], CELLS, cells.len());
-    let m = lent(b.lent[1], types::MOST_OCTETS, output.len());
+    let n = lent_of(b, 0, CELLS, cells.len());
+    let m = lent_of(b, 1, types::MOST_OCTETS, output.len());
     let t = call(row, b.record, octets, &mut cells[0..n], &mut output[0..m]);
     let answer = t.answer;
     let after = t.record;
@@ -109,7 +118,14 @@ fn note(row: usize, n: usize, b: Bench) -> Bench
     b
 }
 
-fn noted_name(row: usize) -> u64 {
+// What a line says that took nothing.
+fn name_of(row: usize) -> u64 {
+    if row < table::FILL {
+        return rows::FRESH;
+    }
+    if row == table::FILL {
+        return rows::FILLED;
+    }
     if row == table::NUMBER {
         rows::NUMBERED
     } else {
@@ -127,12 +143,32 @@ fn fresh(row: usize, b: Bench) -> Bench
     )
 }
 
-fn named(b: Bench, name: u64) -> Made
+// The bench once cells and output are filled: a line that fills keeps the record.
+fn refreshed(row: usize, b: Bench) -> Bench
+    ensures { λ r. ⌜ r ≡ cond (ltb row 6) (withRecord b (freshRecord slotCount (kindBy (eqb row 5)))) b ⌝ }
+{
+    if row < table::FILL {
+        return fresh(row, b);
+    }
+    b
+}
+
+// The octet with which a line fills: 0 with a fresh record.
+fn filler(row: usize, octets: &[u8]) -> u8
+    ensures { λ r. ⌜ r ≡ cond (ltb row 6) 0 (getD (now (octets .entry)) 0 0) ⌝ }
+{
+    if row < table::FILL {
+        return 0;
+    }
+    lines::octet(octets, 0)
+}
+
+fn named(b: Bench, row: usize) -> Made
     ensures { λ r. ⌜ r .bench ≡ b ⌝ }
 {
     Made {
         bench: b,
-        row: rows::plain(name),
+        row: rows::plain(name_of(row)),
     }
 }
 
@@ -150,13 +186,9 @@ pub(crate) fn change(
     if row < 3 {
         return take(row, octets, b, cells, output);
     }
-    if row < table::FILL {
-        fill_both(0, cells, output);
-        return named(fresh(row, b), rows::FRESH);
+    if row <= table::FILL {
+        fill_both(filler(row, octets), cells, output);
+        return named(refreshed(row, b), row);
     }
-    if row == table::FILL {
-        fill_both(lines::octet(octets, 0), cells, output);
-        return named(b, rows::FILLED);
-    }
-    named(note(row, n, b), noted_name(row))
+    named(note(row, n, b), row)
 }

@@ -7,6 +7,5 @@ pub change-spec : {M : Type 1} → statement M
 change-spec =
     tie.close
     (tie.spec (λ c κs. search steps) (λ c. search steps) (λ c. search steps) (λ c. search steps) (λ c κs. search steps) (λ c κs. search steps)
-    (λ c κs. search steps) (λ c. search steps) (λ c. search steps) (λ c. search steps) (λ c κs. search steps) (λ c κs. search steps)
-    (λ c κs. search steps) (λ c. search steps) (λ c. search steps) (λ c. search steps) (λ c κs. search steps) (λ c κs. search steps)
+    (λ c κs. search steps) (λ c κs. search steps) (λ c. search steps) (λ c. search steps) (λ c. search steps) (λ c κs. search steps)
     (λ c κs. search steps) (λ c. search steps))
