@@ -287,40 +287,13 @@ fn refill(t: Tally, piece: &mut [u8], text: &[u8]) -> Tally {
     u
 }
 
-// Takes a line of the piece, or reads on.
-fn turn(
-    s: Session,
-    piece: &mut [u8],
-    cells: &mut [u8],
-    output: &mut [u8],
-    buffer: &mut [u8],
-    text: &mut [u8],
-) -> Session {
-    let t = s.tally;
-    let line = words::piece::next_line(piece, t.from, t.count);
-    if t.count <= line.end {
-        return with_tally(s, refill(t, piece, text));
-    }
-    let from = line.from;
-    let last = line.last;
-    take(
-        &mut piece[from..last],
-        line.end,
-        s,
-        cells,
-        output,
-        buffer,
-        text,
-    )
-}
-
 // Whether there is something to do: more to read, or characters that were read.
 fn goes_on(t: Tally) -> bool {
     (t.more & t.well) | (t.count != 0)
 }
 
-// Reads to the end of the last input, and says how many lines were not understood or too long. A proved loop has to end, and nothing says
-// that input does: so it counts its turns down, from a number that no run uses up.
+// Reads to the end of the last input, and says how many lines were not understood or too long. A turn takes a line of the piece, or reads on.
+// A proved loop has to end, and nothing says that input does: so it counts its turns down, from a number that no run uses up.
 fn read_all(
     mut s: Session,
     piece: &mut [u8],
@@ -331,12 +304,20 @@ fn read_all(
 ) -> u64 {
     let mut turns = u64::MAX;
     while turns > 0 {
+        turns -= 1;
         let t = s.tally;
         if !goes_on(t) {
             return t.wrong;
         }
-        s = turn(s, piece, cells, output, buffer, text);
-        turns -= 1;
+        let line = words::piece::next_line(piece, t.from, t.count);
+        let from = line.from;
+        let last = line.last;
+        let end = line.end;
+        if t.count <= end {
+            s = with_tally(s, refill(t, piece, text));
+            continue;
+        }
+        s = take(&mut piece[from..last], end, s, cells, output, buffer, text);
     }
     0
 }
