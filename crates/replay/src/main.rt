@@ -133,12 +133,11 @@ fn take(
     buffer: &mut [u8],
     text: &mut [u8],
 ) -> Session {
-    let b = s.bench;
-    let t = begin(s.tally, end, b.numbered, text);
+    let t = begin(s.tally, end, s.bench.numbered, text);
     if t.long | (MOST < line.len()) {
         return with_tally(s, pass(t, line, text));
     }
-    let h = bench::answer(line, b, cells, output, buffer, text, t.at);
+    let h = bench::answer(line, s.bench, cells, output, buffer, text, t.at);
     let after = h.bench;
     Session {
         bench: after,
@@ -305,18 +304,17 @@ fn read_all(
     let mut turns = u64::MAX;
     while turns > 0 {
         turns -= 1;
-        let t = s.tally;
-        if !goes_on(t) {
-            return t.wrong;
+        if !goes_on(s.tally) {
+            return s.tally.wrong;
         }
-        let line = words::piece::next_line(piece, t.from, t.count);
+        let line = words::piece::next_line(piece, s.tally.from, s.tally.count);
+        if s.tally.count <= line.end {
+            s = with_tally(s, refill(s.tally, piece, text));
+            continue;
+        }
         let from = line.from;
         let last = line.last;
         let end = line.end;
-        if t.count <= end {
-            s = with_tally(s, refill(t, piece, text));
-            continue;
-        }
         s = take(&mut piece[from..last], end, s, cells, output, buffer, text);
     }
     0
