@@ -1,12 +1,10 @@
 -- What the proofs of `bench` cite: one law for each return, over plain variables.
-use Prim.Native.Nat.{ℕ, zero, suc, _+_, _-_, _≤_, _<_}
+use Prim.Native.Nat.{ℕ, _-_, _≤_, _<_}
 use mathlib.Core.Path.{_≡_, refl, sym, ap, _∙_}
 use mathlib.Core.Bool.{Bool, true, false, not, cond, _&&_}
-use mathlib.Core.List.{List, [], _∷_, _++_}
+use mathlib.Core.List.{List, _++_}
 use native.Mathlib.Omega.{arith}
-use native.Mathlib.Numerals.{add-one}
-use lib.ListN.{length, take, drop, getD, set, replicate, length-set}
-use lib.Seq.{take-suc-set, take-length}
+use lib.ListN.{length, take, drop, getD, set, replicate}
 use lib.Dec.{eqb, ltb}
 use borrow.Author.Needs.{needs}
 use borrow.Author.Tests.{eq-eqb, ne-eqb, lt-ltb, le-ltb, ltb-true, ltb-false, not-true, not-false}
@@ -29,35 +27,6 @@ start-told r e = rw e
 
 clash : (b : Bool) → b ≡ true → b ≡ false → ⊥
 clash b p q = let z : _≡_ {A = ℕ} 0 1 = cc in omega arith
-
--- ---- filling
--- up to i every octet is x
-pub record Filled (x : ℕ) (d : List ℕ) (i : ℕ) (b : List ℕ) : Type 0 where
-  pub some : i ≤ length d
-  pub long : length b ≡ length d
-  pub is : take i b ≡ replicate i x
-
-pub filled-none : (x : ℕ) (d : List ℕ) → Filled x d 0 d
-filled-none x d = record { some = omega arith; long = refl; is = refl }
-
-one-more : (i x : ℕ) → replicate i x ++ (x ∷ []) ≡ replicate (suc i) x
-one-more zero x = refl
-one-more (suc i) x = ap (λ (l : List ℕ). x ∷ l) (one-more i x)
-
-module _ (x : ℕ) (d : List ℕ) (i : ℕ) (b : List ℕ) (c : Filled x d i b) where
-  pub filled-more : i < length b → Filled x d (i + 1) (set b i x)
-  filled-more l =
-      record {
-        some = omega (arith, c .long);
-        long = rw length-set (c .long);
-        is = rw (add-one, take-suc-set b i x, c .is) (one-more i x);
-      }
-
-  pub filled-all : length b ≤ i → b ≡ replicate (length d) x
-  filled-all l =
-      let e : i ≡ length d = omega (arith, c .some, c .long) in
-      let f : length b ≡ i = omega (arith, c .long, e) in
-      sym (rw f at (take-length b)) ∙ rw (← e) (c .is)
 
 -- ---- taking
 module _ (row : ℕ) (octets : List ℕ) (r q : Record) (a : Answer) (cells output cells′ output′ : List ℕ) where
@@ -220,9 +189,6 @@ module _ (u : Bool) (before : List ℕ) where
 pub ruleset steps = (
   needs,
   start-told,
-  filled-none,
-  filled-more,
-  filled-all,
   fresh-told,
   call-message,
   call-page,

@@ -34,17 +34,6 @@ pub(crate) fn with_record(b: Bench, r: Record) -> Bench
     }
 }
 
-// Fills a buffer with one octet.
-pub(crate) fn fill(buffer: &mut [u8], x: u8)
-    ensures { λ _. ⌜ now (buffer .exit) ≡ replicate (length (now (buffer .entry))) x ⌝ }
-{
-    let mut i = 0;
-    while i < buffer.len() {
-        buffer[i] = x;
-        i += 1;
-    }
-}
-
 // ---- taking
 // Takes a message or a page.
 fn call(row: usize, r: Record, octets: &[u8], cells: &mut [u8], output: &mut [u8]) -> types::Taken
@@ -86,8 +75,8 @@ fn fill_both(x: u8, cells: &mut [u8], output: &mut [u8])
     ensures { λ _. ⌜ now (cells .exit) ≡ replicate (length (now (cells .entry))) x ⌝ }
     ensures { λ _. ⌜ now (output .exit) ≡ replicate (length (now (output .entry))) x ⌝ }
 {
-    fill(cells, x);
-    fill(output, x);
+    lines::fill(cells, x);
+    lines::fill(output, x);
 }
 
 // ---- lending and numbering

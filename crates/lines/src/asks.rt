@@ -26,7 +26,7 @@ fn name_of(row: usize) -> u64 {
 }
 
 // Octets of a buffer.
-pub fn part(l: Line) -> Row {
+pub(crate) fn part(l: Line) -> Row {
     let values = l.values;
     let sort = 12 + ((l.row % 3 + 2) % 3) as u64;
     let from = narrow(values[0]);

@@ -9,9 +9,7 @@ mod slots;
 use answers::Row;
 use answers::rows;
 pub use asks::of_record;
-pub use asks::part;
 pub use packets::say_packet;
-pub use parts::arrival;
 pub use parts::kind_of;
 pub use parts::sender_of;
 pub use slots::say_slot;
@@ -21,7 +19,7 @@ use words::line::Line;
 use words::table;
 ghost use mathlib.Core.Path.{_≡_};
 ghost use Prim.Native.Nat.{_≤_};
-ghost use lib.ListN.{getD};
+ghost use lib.ListN.{length, getD, replicate};
 ghost use Rattle.lines.specs.Lent.{lentOf, wantedOf};
 
 // A number of octets lent that stands for the right one.
@@ -64,6 +62,17 @@ pub fn octet(fields: &[u8], i: usize) -> u8
     if i < fields.len() { fields[i] } else { 0 }
 }
 
+// Fills a buffer with one octet.
+pub fn fill(buffer: &mut [u8], x: u8)
+    ensures { λ _. ⌜ now (buffer .exit) ≡ replicate (length (now (buffer .entry))) x ⌝ }
+{
+    let mut i = 0;
+    while i < buffer.len() {
+        buffer[i] = x;
+        i += 1;
+    }
+}
+
 // Makes what a line asks for at the start of what is lent of the buffer.
 fn made(l: Line, fields: &[u8], out: &mut [u8]) -> Row {
     if l.row < table::BUILD_COMMAND {
@@ -78,7 +87,25 @@ fn made(l: Line, fields: &[u8], out: &mut [u8]) -> Row {
 }
 
 // The same in a buffer of which so many octets are lent.
-pub fn make(l: Line, fields: &[u8], size: usize, buffer: &mut [u8]) -> Row {
+fn make(l: Line, fields: &[u8], size: usize, buffer: &mut [u8]) -> Row {
     let n = lent(size, right(l.row), buffer.len());
     made(l, fields, &mut buffer[0..n])
+}
+
+// What a line answers, the record's and the packets' apart; `row` is what was made of it already. A line that fills fills the buffer too.
+pub fn told(l: Line, fields: &[u8], row: Row, size: usize, buffer: &mut [u8]) -> Row {
+    if l.row == table::FILL {
+        fill(buffer, octet(fields, 0));
+        return row;
+    }
+    if l.row <= table::SLOT {
+        return row;
+    }
+    if l.row <= table::BUFFER {
+        return asks::part(l);
+    }
+    if table::READ_COMMAND <= l.row {
+        return parts::arrival(l.row, fields);
+    }
+    make(l, fields, size, buffer)
 }

@@ -37,7 +37,7 @@ pub fn sender_of(fields: &[u8]) -> u32
 }
 
 // What one arrival brings.
-pub fn arrival(row: usize, fields: &[u8]) -> answers::Row {
+pub(crate) fn arrival(row: usize, fields: &[u8]) -> answers::Row {
     if row < table::READ_RESPONSE + 1 {
         let kind = kind_of(row == table::READ_RESPONSE);
         let octets = own_octets(fields, 4);

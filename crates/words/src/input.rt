@@ -44,11 +44,7 @@ fn refuse(word: &[u8]) {
 
 // Opens a file for reading; below 0 if it cannot be, which is then said. A word that begins with - is no file.
 fn opened(word: &[u8]) -> i32 {
-    if word.len() == 0 {
-        refuse(word);
-        return -1;
-    }
-    if word[0] == 45 {
+    if (word.len() == 0) | octets::same(octets::up_to(word, 1), b"-") {
         refuse(word);
         return -1;
     }

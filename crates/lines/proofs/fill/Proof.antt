@@ -1,9 +1,9 @@
 -- Up to i every octet is x (`Filled`). Assumes nothing.
 use Prim.Native.Nat.{_-_}
 use lib.ListN.{length}
-use Rattle.bench.proofs.Steps.{steps, Filled}
-use Rattle.bench.proofs.changes.fill.Statement.{statement}
-use Rattle.bench.proofs.changes.fill.Tie as tie
+use Rattle.lines.proofs.Steps.{steps, Filled}
+use Rattle.lines.proofs.fill.Statement.{statement}
+use Rattle.lines.proofs.fill.Tie as tie
 
 abbrev Inv-loop : tie.InvT-loop
 Inv-loop buffer₀ x i₀ buffer i = Filled x buffer₀ i buffer
