@@ -21,6 +21,9 @@ take-count n p l = sym (length-take-le n p (omega arith))
 pub take-whole : (n : ℕ) (p : List ℕ) → length p ≤ n → p ≡ take n p
 take-whole n p l = sym (take-all n p l)
 
+pub take-as-many : (n m : ℕ) (p q : List ℕ) → n ≡ m → q ≡ take n p → q ≡ take m p
+take-as-many n m p q e h = rw (← e) h
+
 module _ (d : List ℕ) (at : ℕ) (p : List ℕ) where
   no-room : length d < at + length p → fitsAt d at p ≡ false
   no-room l = lt-leb (at + length p) (length d) l
@@ -86,6 +89,7 @@ pub ruleset steps = (
   needs,
   take-count,
   take-whole,
+  take-as-many,
   past-refused,
   past-unchanged,
   short-refused,

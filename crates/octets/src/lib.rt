@@ -1,4 +1,6 @@
 // Octets: one as a length, two as a 16-bit number, the first of a slice, octets put into a lent slice, and two slices compared.
+pub mod given;
+
 use types::Pair;
 ghost use mathlib.Core.Path.{_≡_};
 ghost use lib.ListN.{take};
