@@ -125,7 +125,7 @@ fn ciphered_command(c: Clear, o: Opaque) -> Row {
             c.kic as u64,
             c.kid as u64,
             tar(c.tar),
-            o.header as u64,
+            o.header_length as u64,
             ALL,
             0,
             0,
@@ -168,7 +168,7 @@ fn ciphered_response(t: Tar, o: Opaque) -> Row {
     Row {
         name: CIPHERED,
         sorts: 0xE63,
-        values: [tar(t), o.header as u64, ALL, 0, 0, 0, 0, 0],
+        values: [tar(t), o.header_length as u64, ALL, 0, 0, 0, 0, 0],
     }
 }
 

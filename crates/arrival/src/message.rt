@@ -75,17 +75,17 @@ fn judge(kind: Kind, sender: u32, start: usize, seen: Seen) -> Arrival
     ensures { λ r. ⌜ toldArrival r ≡ judged kind sender start seen ⌝ }
 {
     if seen.wrong | seen.twice {
-        return Arrival::Refused(Refusal::Element);
+        return Arrival::Refused(Refusal::HeaderElement);
     }
     if is_misplaced(kind, seen) {
-        return Arrival::Refused(Refusal::Identifier);
+        return Arrival::Refused(Refusal::WrongIdentifier);
     }
     let c = seen.concatenation;
     if is_alone(c) {
         return Arrival::Single { start };
     }
     if (PARTS as u8) < c.total {
-        return Arrival::Refused(Refusal::Total);
+        return Arrival::Refused(Refusal::TooManyParts);
     }
     Arrival::Part {
         key: key_of(sender, c),
@@ -100,18 +100,18 @@ pub fn read_message(kind: Kind, sender: u32, ud: &[u8]) -> Arrival
     ensures { λ r. ⌜ toldArrival r ≡ readMessage kind sender (now (ud .entry)) ⌝ }
 {
     if USER_DATA_OCTETS < ud.len() {
-        return Arrival::Refused(Refusal::Size);
+        return Arrival::Refused(Refusal::InputLength);
     }
     if ud.len() == 0 {
-        return Arrival::Refused(Refusal::Header);
+        return Arrival::Refused(Refusal::HeaderOverrun);
     }
     let n = ud[0] as usize;
     if ud.len() <= n {
-        return Arrival::Refused(Refusal::Header);
+        return Arrival::Refused(Refusal::HeaderOverrun);
     }
     let start = n + 1;
     let Walked::Header(seen) = walk(&ud[1..start], Cursor { at: 0 }, Seen::nothing()) else {
-        return Arrival::Refused(Refusal::Header);
+        return Arrival::Refused(Refusal::HeaderOverrun);
     };
     judge(kind, sender, start, seen)
 }

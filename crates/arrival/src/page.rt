@@ -79,17 +79,17 @@ pub fn read_page(kind: Kind, page: &[u8]) -> Arrival
     ensures { λ r. ⌜ toldArrival r ≡ readPage kind (now (page .entry)) ⌝ }
 {
     if page.len() != PAGE_OCTETS {
-        return Arrival::Refused(Refusal::Size);
+        return Arrival::Refused(Refusal::InputLength);
     }
     let parameter = page[5];
     let total = total_in(parameter);
     let number = number_in(parameter);
     if total < number {
-        return Arrival::Refused(Refusal::Element);
+        return Arrival::Refused(Refusal::HeaderElement);
     }
     let identifier = identifier_in(page);
     if is_misdirected(kind, identifier) {
-        return Arrival::Refused(Refusal::Identifier);
+        return Arrival::Refused(Refusal::WrongIdentifier);
     }
     if total == 1 {
         return Arrival::Single { start: 6 };

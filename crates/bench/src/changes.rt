@@ -13,9 +13,6 @@ ghost use Rattle.lines.specs.Lent.{kindBy, lentOf};
 ghost use Rattle.bench.specs.Lines as rule;
 ghost use Rattle.bench.specs.Lines.{held, called, taken, changed, noted, withRecord};
 
-// How many octets the cells have.
-const CELLS: usize = types::SLOTS * types::PARTS * types::PART_OCTETS;
-
 // What is held afterwards, and the answer.
 pub(crate) struct Made {
     pub(crate) bench: Bench,
@@ -58,8 +55,8 @@ fn lent_of(b: Bench, i: usize, right: usize, all: usize) -> usize
 fn take(row: usize, octets: &[u8], b: Bench, cells: &mut [u8], output: &mut [u8]) -> Made
     ensures { λ r. ⌜ held (r .bench) (now (cells .exit)) (now (output .exit)) ≡ taken (held b (now (cells .entry)) (now (output .entry))) (rule.call row (now (octets .entry)) (called (held b (now (cells .entry)) (now (output .entry))))) ⌝ }
 {
-    let n = lent_of(b, 0, CELLS, cells.len());
-    let m = lent_of(b, 1, types::MOST_OCTETS, output.len());
+    let n = lent_of(b, 0, types::CELLS_OCTETS, cells.len());
+    let m = lent_of(b, 1, types::PACKET_OCTETS, output.len());
     let t = call(row, b.record, octets, &mut cells[0..n], &mut output[0..m]);
     let answer = t.answer;
     let after = t.record;
@@ -128,7 +125,7 @@ fn fresh(row: usize, b: Bench) -> Bench
 {
     with_record(
         b,
-        skelmarix::fresh(lines::kind_of(row == table::FRESH_RESPONSE)),
+        skelmarix::fresh_record(lines::kind_of(row == table::FRESH_RESPONSE)),
     )
 }
 

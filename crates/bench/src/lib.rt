@@ -31,7 +31,7 @@ pub fn start() -> Bench
     ensures { λ r. ⌜ r ≡ atStart ⌝ }
 {
     Bench {
-        record: skelmarix::fresh(types::Kind::Command),
+        record: skelmarix::fresh_record(types::Kind::Command),
         lent: [lines::RIGHT; 3],
         numbered: false,
     }
@@ -78,7 +78,7 @@ fn done(
 ) -> Heard
     ensures { λ r. ⌜ (r .understood ≡ true) × (held (r .bench) (now (cells .exit)) (now (output .exit)) ≡ changed (l .row) (getD (l .values) 0 0) (take (l .end) (now (line .entry))) (held b (now (cells .entry)) (now (output .entry)))) ⌝ }
 {
-    let octets = skelmarix::up_to(line, l.end);
+    let octets = skelmarix::first_octets(line, l.end);
     let values = l.values;
     let made = changes::change(l.row, first(values), octets, b, cells, output);
     let end = asks::say(l, octets, made, cells, output, buffer, text, at);

@@ -4,7 +4,7 @@ use packet::layout;
 use types::Clear;
 use types::Cntr;
 use types::Kind;
-use types::MOST_OCTETS;
+use types::PACKET_OCTETS;
 use types::Refusal;
 use types::Tar;
 use types::Written;
@@ -52,10 +52,10 @@ fn over(head: usize, front: usize, back: usize) -> bool
     requires { ⌜ head ≤ 16 ⌝ }
     ensures { λ r. ⌜ r ≡ ltb mostOctets (head + (front + back)) ⌝ }
 {
-    if MOST_OCTETS - head < front {
+    if PACKET_OCTETS - head < front {
         return true;
     }
-    MOST_OCTETS - head - front < back
+    PACKET_OCTETS - head - front < back
 }
 
 // Whether a packet is built, or how it is refused.
@@ -68,17 +68,17 @@ enum Ruling {
 fn rule(kind: Kind, buffer: usize, first: u8, ciphered: bool, misfit: bool, over: bool) -> Ruling
     ensures { λ r. ⌜ toldRuling r ≡ ruled buffer (againstOctet kind first ciphered) misfit over (gives 0) ⌝ }
 {
-    if buffer != MOST_OCTETS {
+    if buffer != PACKET_OCTETS {
         return Ruling::Refused(Refusal::BufferOrRecord);
     }
     if against(kind, first, ciphered) {
-        return Ruling::Refused(Refusal::Cipher);
+        return Ruling::Refused(Refusal::CipherMismatch);
     }
     if misfit {
-        return Ruling::Refused(Refusal::HeaderLength);
+        return Ruling::Refused(Refusal::PacketHeader);
     }
     if over {
-        return Ruling::Refused(Refusal::PacketLength);
+        return Ruling::Refused(Refusal::PacketTooLong);
     }
     Ruling::Allowed
 }

@@ -2,7 +2,7 @@
 use skelmarix::Answer;
 use skelmarix::Record;
 use skelmarix::Taken;
-use skelmarix::up_to;
+use skelmarix::first_octets;
 
 // Printed as a word: no refusal has this number.
 pub const DIFFERS: u8 = 255;
@@ -61,7 +61,7 @@ fn begins_with_m(out: &[u8]) -> bool {
     if out.len() < 17 {
         return false;
     }
-    skelmarix::same(up_to(out, 16), &M) & (out[16] == BEFORE)
+    skelmarix::same_octets(first_octets(out, 16), &M) & (out[16] == BEFORE)
 }
 
 // What stands for the reference of a free slot.

@@ -29,7 +29,7 @@ fn single(cpl: u8, chl: u8) -> u8 {
 // The first n octets of 05 00 03 2A total 02.
 fn header(total: u8, n: usize, expected: Expected) -> u8 {
     let ud = [0x05, 0x00, 0x03, 0x2A, total, 0x02];
-    take::message(skelmarix::up_to(&ud, n), expected)
+    take::message(skelmarix::first_octets(&ud, n), expected)
 }
 
 // 07 00 03 2A 00 01 70 00 M.

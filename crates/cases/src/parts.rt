@@ -1,9 +1,10 @@
 // Examples that split packets: k, l and L.
 use crate::answers;
 use skelmarix::Kind;
+use skelmarix::USER_DATA_OCTETS;
 use skelmarix::WrittenPart;
+use skelmarix::first_octets;
 use skelmarix::pair_of;
-use skelmarix::up_to;
 use skelmarix::write_message;
 
 // Writes one part of a command packet of CPL + 2 octets.
@@ -12,13 +13,13 @@ fn write(width: u32, number: u32, cpl: u16) -> WrittenPart {
     let mut packet = [0x0D; 2143];
     packet[0] = lengths.0;
     packet[1] = lengths.1;
-    let mut ud = [answers::BEFORE; 140];
+    let mut ud = [answers::BEFORE; USER_DATA_OCTETS];
     write_message(
         Kind::Command,
         width,
         0x2A,
         number,
-        up_to(&packet, cpl as usize + 2),
+        first_octets(&packet, cpl as usize + 2),
         &mut ud,
     )
 }

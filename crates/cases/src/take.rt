@@ -3,15 +3,18 @@ use crate::answers;
 use crate::answers::Expected;
 use crate::answers::NONE;
 use skelmarix::Answer;
+use skelmarix::CELLS_OCTETS;
 use skelmarix::Kind;
+use skelmarix::PACKET_OCTETS;
+use skelmarix::PAGE_OCTETS;
 use skelmarix::Record;
 use skelmarix::Taken;
-use skelmarix::fresh;
+use skelmarix::first_octets;
+use skelmarix::fresh_record;
 use skelmarix::own_octets;
-use skelmarix::put;
+use skelmarix::put_octets;
 use skelmarix::take_message;
 use skelmarix::take_page;
-use skelmarix::up_to;
 
 // Who sends the messages.
 const SENDER: u32 = 7;
@@ -30,7 +33,7 @@ fn call(paged: bool, octets: &[u8], at: usize, last: usize) -> &[u8] {
     if at == last {
         return rest;
     }
-    up_to(rest, if paged { 88 } else { 7 })
+    first_octets(rest, if paged { PAGE_OCTETS } else { 7 })
 }
 
 // Takes calls that lie one behind the other, up to that which begins at `last`.
@@ -47,7 +50,7 @@ fn each(
     while at <= last as usize {
         let octets = call(paged, octets, at, last as usize);
         taken = take(paged, taken.record, octets, cells, out);
-        at = if paged { at + 88 } else { at + 7 };
+        at = if paged { at + PAGE_OCTETS } else { at + 7 };
     }
     taken
 }
@@ -56,14 +59,14 @@ fn each(
 fn start() -> Taken {
     Taken {
         answer: Answer::Packet { length: 0 },
-        record: fresh(Kind::Command),
+        record: fresh_record(Kind::Command),
     }
 }
 
 // The number of an example of calls that lie one behind the other, on a fresh record, with buffers that hold anything but zeros.
 fn example(paged: bool, octets: &[u8], last: u8, expected: Expected) -> u8 {
-    let mut cells = [answers::BEFORE; 6432];
-    let mut out = [answers::BEFORE; 2142];
+    let mut cells = [answers::BEFORE; CELLS_OCTETS];
+    let mut out = [answers::BEFORE; PACKET_OCTETS];
     let taken = each(paged, start(), octets, last, &mut cells, &mut out);
     answers::after(taken, &out, expected)
 }
@@ -75,20 +78,23 @@ pub fn message(ud: &[u8], expected: Expected) -> u8 {
 
 // One page with serial number 0000, identifier 1080, DCS 96 and this page parameter: M, then 00s.
 pub fn page(parameter: u8, expected: Expected) -> u8 {
-    let mut page = [0x00; 88];
-    put(&[0x00, 0x00, 0x10, 0x80, 0x96, parameter], &mut page, 0);
-    put(&answers::M, &mut page, 6);
+    let mut page = [0x00; PAGE_OCTETS];
+    put_octets(&[0x00, 0x00, 0x10, 0x80, 0x96, parameter], &mut page, 0);
+    put_octets(&answers::M, &mut page, 6);
     example(true, &page, 0, expected)
 }
 
 // Two pages whose packet would fit in one. The first is kept; with the second the series is complete, refused and freed.
 pub fn too_short() -> u8 {
     let mut pages = [0x00; 176];
-    put(b"\x00\x00\x10\x80\x96\x12\x00\x50\x0D", &mut pages, 0);
-    put(b"\x00\x00\x10\x80\x96\x22", &mut pages, 88);
+    put_octets(b"\x00\x00\x10\x80\x96\x12\x00\x50\x0D", &mut pages, 0);
+    put_octets(b"\x00\x00\x10\x80\x96\x22", &mut pages, PAGE_OCTETS);
     let kept = answers::among(0, false, 0, NONE, NONE);
-    let first = example(true, up_to(&pages, 88), 0, kept);
-    answers::held_to(first == 0, example(true, &pages, 88, Expected::Ended))
+    let first = example(true, first_octets(&pages, PAGE_OCTETS), 0, kept);
+    answers::held_to(
+        first == 0,
+        example(true, &pages, PAGE_OCTETS as u8, Expected::Ended),
+    )
 }
 
 // Part 2 of 2 arrives of the series A, B, C and these two, up to that whose octets begin at `last`.
@@ -97,7 +103,7 @@ fn series(fourth: u8, fifth: u8, last: u8, expected: Expected) -> u8 {
         *b"\x05\x00\x03\x0A\x02\x02.\x05\x00\x03\x0B\x02\x02.\x05\x00\x03\x0C\x02\x02.\x05\x00\x03?\x02\x02.\x05\x00\x03?\x02\x02.";
     uds[24] = fourth;
     uds[31] = fifth;
-    example(false, up_to(&uds, last as usize + 7), last, expected)
+    example(false, first_octets(&uds, last as usize + 7), last, expected)
 }
 
 // A, B, C, then D displaces A; A, B, C, A again, then D displaces B.

@@ -3,8 +3,8 @@
 use packet::layout;
 use packet::read;
 use packet::read::Judged;
+use types::CHECKSUM_OCTETS;
 use types::Kind;
-use types::MOST_OCTETS;
 use types::Refusal;
 use types::Written;
 ghost use mathlib.Core.Path.{_≡_};
@@ -16,9 +16,6 @@ ghost use Rattle.types.specs.Refusals.{gives, lent, writes, toldWritten};
 ghost use Rattle.packet.specs.Packets.{least, chl, cipheredCommand, fixedOctets, withoutCheck, checksummed};
 ghost use Rattle.packet.specs.Laws.{Formed};
 ghost use Rattle.checksum.specs.Within.{copied};
-
-// A packet, and the three fixed octets before it.
-const CHECKSUM_OCTETS: usize = MOST_OCTETS + 3;
 
 // Puts the octets that stand before the packet of a kind, and says how many they are.
 fn fixed(kind: Kind, out: &mut [u8]) -> usize
@@ -143,7 +140,7 @@ fn checksum(kind: Kind, ciphered: bool, packet: &[u8], out: &mut [u8]) -> Writte
         Judged::Refused(refusal) => Written::Refused(refusal),
         Judged::Readable(header) => {
             if ciphered {
-                return Written::Refused(Refusal::Cipher);
+                return Written::Refused(Refusal::CipherMismatch);
             }
             collect(kind, header, packet, out)
         }

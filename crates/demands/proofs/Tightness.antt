@@ -7,9 +7,10 @@ use mathlib.Core.Option.{Option, none, some}
 use lib.ListN.{getD}
 use lib.ListN as list
 use Rattle.octets.specs.Octets as octets
+use Rattle.octets.specs.Given as given
 use Rattle.types.specs.declared.Kind.the-variants.{Command, Response}
 use Rattle.types.specs.declared.Refusal.{Refusal}
-use Rattle.types.specs.declared.Refusal.the-variants.{BufferOrRecord, Size, Header, Element, Identifier, Total, OtherTotal, OtherOctets, NotWellFormed, Cipher, HeaderLength, PacketLength, Reference, Number}
+use Rattle.types.specs.declared.Refusal.the-variants.{BufferOrRecord, InputLength, HeaderOverrun, HeaderElement, WrongIdentifier, TooManyParts, OtherTotal, OtherOctets, MalformedPacket, CipherMismatch, PacketHeader, PacketTooLong, ReferenceWidth, PartNumber}
 use Rattle.types.specs.declared.Tar.{Tar}
 use Rattle.types.specs.declared.Cntr.{Cntr}
 use Rattle.types.specs.declared.Clear.{Clear}
@@ -24,7 +25,7 @@ use Rattle.types.specs.declared.ParsedResponse.the-variants as parsedResponse
 use Rattle.types.specs.declared.Written.{Written}
 use Rattle.types.specs.declared.Written.the-variants as written
 use Rattle.types.specs.Refusals.{Outcome, refused, gives, Lent, refusalNumber}
-use Rattle.packet.specs.Packets.{Parsed, plainParsed, cipheredParsed, formedBy, wellFormed, cipheredCommand, shownData, shownCheck, shownOpaque}
+use Rattle.packet.specs.Packets.{Parsed, plainParsed, cipheredParsed, wellFormed, cipheredCommand, shownData, shownCheck, shownOpaque}
 use Rattle.packet.specs.declared.read.Judged.{Judged}
 use Rattle.packet.specs.declared.read.Judged.the-variants as judged
 use Rattle.packet.specs.Told.{toldCommand, toldResponse}
@@ -57,25 +58,25 @@ tight told back recovers rule r₁ r₂ e₁ e₂ = sym (recovers r₁) ∙ ap b
 refusalOf : ℕ → Refusal
 refusalOf n =
     getD
-    (BufferOrRecord ∷ Size ∷ Header ∷ Element ∷ Identifier ∷ Total ∷ OtherTotal ∷ OtherOctets ∷ NotWellFormed ∷ Cipher ∷ HeaderLength ∷ PacketLength ∷ Reference ∷ Number ∷ [])
+    (BufferOrRecord ∷ InputLength ∷ HeaderOverrun ∷ HeaderElement ∷ WrongIdentifier ∷ TooManyParts ∷ OtherTotal ∷ OtherOctets ∷ MalformedPacket ∷ CipherMismatch ∷ PacketHeader ∷ PacketTooLong ∷ ReferenceWidth ∷ PartNumber ∷ [])
     (n - 1) BufferOrRecord
 
 refusal-back : (r : Refusal) → refusalOf (refusalNumber r) ≡ r
 unfolding refusalOf
 refusal-back BufferOrRecord = refl
-refusal-back Size = refl
-refusal-back Header = refl
-refusal-back Element = refl
-refusal-back Identifier = refl
-refusal-back Total = refl
+refusal-back InputLength = refl
+refusal-back HeaderOverrun = refl
+refusal-back HeaderElement = refl
+refusal-back WrongIdentifier = refl
+refusal-back TooManyParts = refl
 refusal-back OtherTotal = refl
 refusal-back OtherOctets = refl
-refusal-back NotWellFormed = refl
-refusal-back Cipher = refl
-refusal-back HeaderLength = refl
-refusal-back PacketLength = refl
-refusal-back Reference = refl
-refusal-back Number = refl
+refusal-back MalformedPacket = refl
+refusal-back CipherMismatch = refl
+refusal-back PacketHeader = refl
+refusal-back PacketTooLong = refl
+refusal-back ReferenceWidth = refl
+refusal-back PartNumber = refl
 
 -- ---- parsed packets
 tarAt : List ℕ → ℕ → Tar
@@ -90,9 +91,9 @@ clearOf f = record { spi = (getD f 0 0, getD f 1 0); kic = getD f 2 0; kid = get
 commandOf : Outcome Parsed → ParsedCommand
 commandOf (refused n) = parsedCommand.Refused (refusalOf n)
 commandOf (gives (plainParsed f c d)) =
-    parsedCommand.Fields (record { clear = clearOf f; body = command.Plain (record { cntr = cntrAt f 7; pcntr = getD f 12 0; check = c; «data» = d }) })
+    parsedCommand.Fields (record { clear = clearOf f; body = command.Plain (record { cntr = cntrAt f 7; pcntr = getD f 12 0; «check_length» = c; «data_length» = d }) })
 commandOf (gives (cipheredParsed f h o)) =
-    parsedCommand.Fields (record { clear = clearOf f; body = command.Ciphered (record { header = h; octets = o }) })
+    parsedCommand.Fields (record { clear = clearOf f; body = command.Ciphered (record { «header_length» = h; «opaque_length» = o }) })
 
 command-body : (x : Clear) (b : CommandBody) → commandOf (toldCommand (parsedCommand.Fields (record { clear = x; body = b }))) ≡ parsedCommand.Fields (record { clear = x; body = b })
 unfolding commandOf clearOf tarAt cntrAt
@@ -107,8 +108,8 @@ command-back (parsedCommand.Refused r) = ap parsedCommand.Refused (refusal-back 
 responseOf : Outcome Parsed → ParsedResponse
 responseOf (refused n) = parsedResponse.Refused (refusalOf n)
 responseOf (gives (plainParsed f c d)) =
-    parsedResponse.Fields (record { tar = tarAt f 0; body = response.Plain (record { cntr = cntrAt f 3; pcntr = getD f 8 0; status = getD f 9 0; check = c; «data» = d }) })
-responseOf (gives (cipheredParsed f h o)) = parsedResponse.Fields (record { tar = tarAt f 0; body = response.Ciphered (record { header = h; octets = o }) })
+    parsedResponse.Fields (record { tar = tarAt f 0; body = response.Plain (record { cntr = cntrAt f 3; pcntr = getD f 8 0; status = getD f 9 0; «check_length» = c; «data_length» = d }) })
+responseOf (gives (cipheredParsed f h o)) = parsedResponse.Fields (record { tar = tarAt f 0; body = response.Ciphered (record { «header_length» = h; «opaque_length» = o }) })
 
 response-body : (t : Tar) (b : ResponseBody) → responseOf (toldResponse (parsedResponse.Fields (record { tar = t; body = b }))) ≡ parsedResponse.Fields (record { tar = t; body = b })
 unfolding responseOf tarAt cntrAt
@@ -238,17 +239,19 @@ promises = record {
   refusal-number = λ x. plain (refusalNumber x);
   number-of = λ high low. plain (octets.numberOf high low);
   pair-of = λ n. plain (octets.pairOf n);
-  put = λ src dst at r₁ r₂ e₁ e₂. put-one (e₁ .0 ∙ sym (e₂ .0)) (e₁ .1 ∙ sym (e₂ .1));
-  same = λ a b. plain (octets.sameOctets a b);
-  up-to = λ src n. plain (list.take n src);
+  put-octets = λ src dst at r₁ r₂ e₁ e₂. put-one (e₁ .0 ∙ sym (e₂ .0)) (e₁ .1 ∙ sym (e₂ .1));
+  same-octets = λ a b. plain (octets.sameOctets a b);
+  first-octets = λ src n. plain (list.take n src);
+  packet-in = λ x out. plain (list.take (given.packetLength x) out);
+  written-in = λ x buffer. plain (list.take (given.writtenLength x) buffer);
+  part-in = λ x buffer. plain (list.take (given.partLength x) buffer);
   build-command = λ clear cntr pcntr check secured out. tellings .build-and-checksum _;
   build-ciphered-command = λ clear header opaque out. tellings .build-and-checksum _;
   build-response = λ tar cntr pcntr status check secured out. tellings .build-and-checksum _;
   build-ciphered-response = λ tar header opaque out. tellings .build-and-checksum _;
   command-checksum = λ p out. tellings .build-and-checksum _;
   response-checksum = λ p c out. tellings .build-and-checksum _;
-  formed = λ k size high low header. plain (formedBy k size high low header);
-  well-formed = λ k p. plain (wellFormed k p);
+  packet-formed = λ k p. plain (wellFormed k p);
   parse-command = λ p. tellings .parse-command _;
   parse-response = λ p c. tellings .parse-response _;
   command-check = λ p. plain (shownCheck Command (cipheredCommand p) p);
@@ -260,7 +263,7 @@ promises = record {
   read-message = λ k sender ud. tellings .read-message-and-page _;
   read-page = λ k page. tellings .read-message-and-page _;
   own-octets = λ o start. plain (list.drop start o);
-  fresh = λ k. plain (freshRecord slotCount k);
+  fresh-record = λ k. plain (freshRecord slotCount k);
   record-formed = λ x. plain (recordFormed slotCount x);
   take-message = λ x sender ud cells out. tellings .take-message-and-page _;
   take-page = λ x page cells out. tellings .take-message-and-page _;

@@ -78,11 +78,11 @@ pub record CallsBuild (p buffer : List ℕ) : Type 0 where
       → built Command (plain (commandFixed (x .clear) (b .cntr) (b .pcntr)) (shownCheck Command (cipheredCommand p) p) (shownData Command (cipheredCommand p) p)) buffer
       ≡ writes (gives p) buffer
   pub build-ciphered-command : (x : commands.Command) (b : Opaque) → toldCommand (parsedCommand.Fields x) ≡ parsing Command (cipheredCommand p) p → x .body ≡ command.Ciphered b
-      → built Command (ciphered (clearOctets (x .clear)) (b .header) (shownOpaque Command (cipheredCommand p) p)) buffer ≡ writes (gives p) buffer
+      → built Command (ciphered (clearOctets (x .clear)) (b .«header_length») (shownOpaque Command (cipheredCommand p) p)) buffer ≡ writes (gives p) buffer
   pub build-response : (x : responses.Response) (b : PlainResponse) (c : Bool) → toldResponse (parsedResponse.Fields x) ≡ parsing Response c p → x .body ≡ response.Plain b
       → built Response (plain (responseFixed (x .tar) (b .cntr) (b .pcntr) (b .status)) (shownCheck Response c p) (shownData Response c p)) buffer ≡ writes (gives p) buffer
   pub build-ciphered-response : (x : responses.Response) (b : Opaque) (c : Bool) → toldResponse (parsedResponse.Fields x) ≡ parsing Response c p → x .body ≡ response.Ciphered b
-      → built Response (ciphered (tarOctets (x .tar)) (b .header) (shownOpaque Response c p)) buffer ≡ writes (gives p) buffer
+      → built Response (ciphered (tarOctets (x .tar)) (b .«header_length») (shownOpaque Response c p)) buffer ≡ writes (gives p) buffer
 
 abbrev pub ReadThenBuildCalls : Type 0
 ReadThenBuildCalls = (p buffer : List ℕ) → Octets p → length buffer ≡ mostOctets → CallsBuild p buffer

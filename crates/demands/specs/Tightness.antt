@@ -20,9 +20,11 @@ use Rattle.types.specs.declared.SerialNumber.{SerialNumber}
 use Rattle.types.specs.declared.MessageIdentifier.{MessageIdentifier}
 use Rattle.types.specs.declared.Record.{Record}
 use Rattle.types.specs.declared.Written.{Written}
+use Rattle.types.specs.declared.Answer.{Answer}
 use Rattle.types.specs.Refusals.{Lent, lent, refusalNumber, toldWritten}
 use Rattle.octets.specs.Octets as octets
-use Rattle.packet.specs.Packets.{plain, ciphered, formedBy, wellFormed, cipheredCommand, parsing, shownData, shownCheck, shownOpaque, built, checksummed}
+use Rattle.octets.specs.Given as given
+use Rattle.packet.specs.Packets.{plain, ciphered, wellFormed, cipheredCommand, parsing, shownData, shownCheck, shownOpaque, built, checksummed}
 use Rattle.packet.specs.Told.{tarOctets, clearOctets, commandFixed, responseFixed, toldCommand, toldResponse}
 use Rattle.packet.specs.Judging.{toldJudged}
 use Rattle.header.specs.Reading.{toldWalked}
@@ -80,7 +82,7 @@ pub record Tellings : Type 0 where
   pub hand-out : Tight toldHanded
 
 -- Where the promise is that the outcome itself is what the rule says, nothing else can be told of it. So it is of the other calls between
--- crates: wide, before, least, cipher_bit, ciphered_command, element, nothing, plus, walk, in_range, is_pageless, reference_fits, room,
+-- crates: wide, formed, before, least, cipher_bit, ciphered_command, element, nothing, plus, walk, in_range, is_pageless, reference_fits, room,
 -- no_front, extended, front_of, opened, free_slot, with_part, same_key, seat_of, replaced.
 abbrev pub PlainPromises : Type 1
 PlainPromises = (Outcome : Type 0) → Tight {Outcome = Outcome} {Paper = Outcome} (λ r. r)
@@ -97,9 +99,13 @@ pub record Promises : Type 0 where
   -- octets
   pub number-of : (high low : ℕ) → One (λ (r : ℕ). r ≡ octets.numberOf high low)
   pub pair-of : (n : ℕ) → One (λ (r : Pair). r ≡ octets.pairOf n)
-  pub put : (src dst : List ℕ) (at : ℕ) → One (λ (r : Bool × List ℕ). (r .0 ≡ octets.fitsAt dst at src) × (r .1 ≡ octets.afterPut dst at src))
-  pub same : (a b : List ℕ) → One (λ (r : Bool). r ≡ octets.sameOctets a b)
-  pub up-to : (src : List ℕ) (n : ℕ) → One (λ (r : List ℕ). r ≡ list.take n src)
+  pub put-octets : (src dst : List ℕ) (at : ℕ) → One (λ (r : Bool × List ℕ). (r .0 ≡ octets.fitsAt dst at src) × (r .1 ≡ octets.afterPut dst at src))
+  pub same-octets : (a b : List ℕ) → One (λ (r : Bool). r ≡ octets.sameOctets a b)
+  pub first-octets : (src : List ℕ) (n : ℕ) → One (λ (r : List ℕ). r ≡ list.take n src)
+  -- what an answer is about
+  pub packet-in : (x : Answer) (out : List ℕ) → One (λ (r : List ℕ). r ≡ list.take (given.packetLength x) out)
+  pub written-in : (x : Written) (buffer : List ℕ) → One (λ (r : List ℕ). r ≡ list.take (given.writtenLength x) buffer)
+  pub part-in : (x : WrittenPart) (buffer : List ℕ) → One (λ (r : List ℕ). r ≡ list.take (given.partLength x) buffer)
   -- packets
   pub build-command : (clear : Clear) (cntr : Cntr) (pcntr : ℕ) (check secured out : List ℕ)
       → One (λ (r : Written × List ℕ). toldBuilt r ≡ built Command (plain (commandFixed clear cntr pcntr) check secured) out)
@@ -111,8 +117,7 @@ pub record Promises : Type 0 where
       → One (λ (r : Written × List ℕ). toldBuilt r ≡ built Response (ciphered (tarOctets tar) header opaque) out)
   pub command-checksum : (p out : List ℕ) → One (λ (r : Written × List ℕ). toldBuilt r ≡ checksummed Command (cipheredCommand p) p out)
   pub response-checksum : (p : List ℕ) (c : Bool) (out : List ℕ) → One (λ (r : Written × List ℕ). toldBuilt r ≡ checksummed Response c p out)
-  pub formed : (k : Kind) (size high low header : ℕ) → One (λ (r : Bool). r ≡ formedBy k size high low header)
-  pub well-formed : (k : Kind) (p : List ℕ) → One (λ (r : Bool). r ≡ wellFormed k p)
+  pub packet-formed : (k : Kind) (p : List ℕ) → One (λ (r : Bool). r ≡ wellFormed k p)
   pub parse-command : (p : List ℕ) → One (λ (r : ParsedCommand). toldCommand r ≡ parsing Command (cipheredCommand p) p)
   pub parse-response : (p : List ℕ) (c : Bool) → One (λ (r : ParsedResponse). toldResponse r ≡ parsing Response c p)
   pub command-check : (p : List ℕ) → One (λ (r : List ℕ). r ≡ shownCheck Command (cipheredCommand p) p)
@@ -126,7 +131,7 @@ pub record Promises : Type 0 where
   pub read-page : (k : Kind) (page : List ℕ) → One (λ (r : Arrival). toldArrival r ≡ readPage k page)
   pub own-octets : (o : List ℕ) (start : ℕ) → One (λ (r : List ℕ). r ≡ list.drop start o)
   -- series
-  pub fresh : (k : Kind) → One (λ (r : Record). r ≡ freshRecord slotCount k)
+  pub fresh-record : (k : Kind) → One (λ (r : Record). r ≡ freshRecord slotCount k)
   pub record-formed : (x : Record) → One (λ (r : Bool). r ≡ recordFormed slotCount x)
   pub take-message : (x : Record) (sender : ℕ) (ud cells out : List ℕ)
       → One (λ (r : Taken × (List ℕ × List ℕ)). toldTaken r ≡ taking.takeMessage slotCount (taking.state x cells out) sender ud)

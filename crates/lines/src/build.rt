@@ -1,7 +1,7 @@
 // Lines on building.
 use crate::octet;
+use skelmarix::first_octets;
 use skelmarix::own_octets;
-use skelmarix::up_to;
 use types::Clear;
 use types::Cntr;
 use types::Tar;
@@ -35,7 +35,7 @@ fn clear_of(fields: &[u8]) -> Clear {
 
 // SPI, KIC, KID, TAR, CNTR, PCNTR, CHECK and DATA, which begins at `data`.
 fn plain_command(fields: &[u8], data: usize, out: &mut [u8]) -> Written {
-    let check = own_octets(up_to(fields, data), 13);
+    let check = own_octets(first_octets(fields, data), 13);
     skelmarix::build_command(
         clear_of(fields),
         cntr_at(fields, 7),
@@ -48,7 +48,7 @@ fn plain_command(fields: &[u8], data: usize, out: &mut [u8]) -> Written {
 
 // TAR, CNTR, PCNTR, STATUS, CHECK and DATA, which begins at `data`.
 fn plain_response(fields: &[u8], data: usize, out: &mut [u8]) -> Written {
-    let check = own_octets(up_to(fields, data), 10);
+    let check = own_octets(first_octets(fields, data), 10);
     skelmarix::build_response(
         tar_at(fields, 0),
         cntr_at(fields, 3),

@@ -14,7 +14,8 @@ pub use parts::kind_of;
 pub use parts::sender_of;
 pub use slots::say_slot;
 pub use slots::slot_of;
-use types::MOST_OCTETS;
+use types::CHECKSUM_OCTETS;
+use types::PACKET_OCTETS;
 use words::line::Line;
 use words::table;
 ghost use mathlib.Core.Path.{_≡_};
@@ -43,10 +44,10 @@ fn wanted(n: usize, right: usize) -> usize
 // The right number for a line that writes to the buffer. A checksum covers a packet and the three octets before a response.
 fn right(row: usize) -> usize {
     if row < table::BUILD_COMMAND {
-        return MOST_OCTETS + 3;
+        return CHECKSUM_OCTETS;
     }
     if row < table::BUILD_CIPHERED_RESPONSE + 1 {
-        return MOST_OCTETS;
+        return PACKET_OCTETS;
     }
     if row == table::WRITE_PAGE {
         types::PAGE_OCTETS

@@ -119,29 +119,29 @@ module _ (k : Kind) (p : List ℕ) (f : Formed k p) where
       let n : length (drop (before k) (drop 3 p)) ≡ o = simp length-drop (omega arith) in rw (e, g, n)
 
 module _ (p : List ℕ) (f : Formed Command p) (x : Clear) (e : clearOctets x ≡ take 7 (drop 3 p)) (c : Bool) (s : c ≡ cipheredCommand p) where
-  pub command-opaque : (b : Opaque) → c ≡ true → (b .header ≡ chl p) × (b .octets ≡ length p - 10)
+  pub command-opaque : (b : Opaque) → c ≡ true → (b .«header_length» ≡ chl p) × (b .«opaque_length» ≡ length p - 10)
       → commandFields x (command.Ciphered b) ≡ measured (fieldsOf Command (cipheredCommand p) p)
-  command-opaque b t h = rw (← s, t) (opaque-measured Command p f (clearOctets x) (b .header) (b .octets) e (h .0) (h .1))
+  command-opaque b t h = rw (← s, t) (opaque-measured Command p f (clearOctets x) (b .«header_length») (b .«opaque_length») e (h .0) (h .1))
 
   pub command-plain : (b : PlainCommand) (h : ℕ) → h ≡ chl p → c ≡ false
-      → (counterOctets (b .cntr) (b .pcntr ∷ []) ≡ take 6 (drop 10 p)) × ((b .check ≡ h - 13) × (b .data ≡ length p - (h + 3)))
+      → (counterOctets (b .cntr) (b .pcntr ∷ []) ≡ take 6 (drop 10 p)) × ((b .«check_length» ≡ h - 13) × (b .«data_length» ≡ length p - (h + 3)))
       → commandFields x (command.Plain b) ≡ measured (fieldsOf Command (cipheredCommand p) p)
   command-plain b h g t i =
       rw (← s, t)
-      (plain-measured Command p f (clearOctets x) (counterOctets (b .cntr) (b .pcntr ∷ [])) (b .check) (b .data)
+      (plain-measured Command p f (clearOctets x) (counterOctets (b .cntr) (b .pcntr ∷ [])) (b .«check_length») (b .«data_length»)
       (runs p 3 7 6 (clearOctets x) (counterOctets (b .cntr) (b .pcntr ∷ [])) e (i .0)) (rw (← g) (i .1 .0)) (rw (← g) (i .1 .1)))
 
 module _ (p : List ℕ) (f : Formed Response p) (x : Tar) (e : tarOctets x ≡ take 3 (drop 3 p)) (c : Bool) where
-  pub response-opaque : (b : Opaque) → c ≡ true → (b .header ≡ chl p) × (b .octets ≡ length p - 6)
+  pub response-opaque : (b : Opaque) → c ≡ true → (b .«header_length» ≡ chl p) × (b .«opaque_length» ≡ length p - 6)
       → responseFields x (response.Ciphered b) ≡ measured (fieldsOf Response c p)
-  response-opaque b t h = rw t (opaque-measured Response p f (tarOctets x) (b .header) (b .octets) e (h .0) (h .1))
+  response-opaque b t h = rw t (opaque-measured Response p f (tarOctets x) (b .«header_length») (b .«opaque_length») e (h .0) (h .1))
 
   pub response-plain : (b : PlainResponse) (h : ℕ) → h ≡ chl p → c ≡ false
-      → (counterOctets (b .cntr) (b .pcntr ∷ b .status ∷ []) ≡ take 7 (drop 6 p)) × ((b .check ≡ h - 10) × (b .data ≡ length p - (h + 3)))
+      → (counterOctets (b .cntr) (b .pcntr ∷ b .status ∷ []) ≡ take 7 (drop 6 p)) × ((b .«check_length» ≡ h - 10) × (b .«data_length» ≡ length p - (h + 3)))
       → responseFields x (response.Plain b) ≡ measured (fieldsOf Response c p)
   response-plain b h g t i =
       rw t
-      (plain-measured Response p f (tarOctets x) (counterOctets (b .cntr) (b .pcntr ∷ b .status ∷ [])) (b .check) (b .data)
+      (plain-measured Response p f (tarOctets x) (counterOctets (b .cntr) (b .pcntr ∷ b .status ∷ [])) (b .«check_length») (b .«data_length»)
       (runs p 3 3 7 (tarOctets x) (counterOctets (b .cntr) (b .pcntr ∷ b .status ∷ [])) e (i .0)) (rw (← g) (i .1 .0)) (rw (← g) (i .1 .1)))
 
 -- ---- parsing

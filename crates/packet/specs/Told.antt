@@ -35,12 +35,12 @@ abbrev pub responseFixed : Tar → Cntr → ℕ → ℕ → List ℕ
 responseFixed t n pcntr status = tarOctets t ++ counterOctets n (pcntr ∷ status ∷ [])
 
 abbrev pub commandFields : Clear → CommandBody → Parsed
-commandFields x (command.Plain b) = plainParsed (commandFixed x (b .cntr) (b .pcntr)) (b .check) (b .data)
-commandFields x (command.Ciphered b) = cipheredParsed (clearOctets x) (b .header) (b .octets)
+commandFields x (command.Plain b) = plainParsed (commandFixed x (b .cntr) (b .pcntr)) (b .«check_length») (b .«data_length»)
+commandFields x (command.Ciphered b) = cipheredParsed (clearOctets x) (b .«header_length») (b .«opaque_length»)
 
 abbrev pub responseFields : Tar → ResponseBody → Parsed
-responseFields t (response.Plain b) = plainParsed (responseFixed t (b .cntr) (b .pcntr) (b .status)) (b .check) (b .data)
-responseFields t (response.Ciphered b) = cipheredParsed (tarOctets t) (b .header) (b .octets)
+responseFields t (response.Plain b) = plainParsed (responseFixed t (b .cntr) (b .pcntr) (b .status)) (b .«check_length») (b .«data_length»)
+responseFields t (response.Ciphered b) = cipheredParsed (tarOctets t) (b .«header_length») (b .«opaque_length»)
 
 abbrev pub toldCommand : ParsedCommand → Outcome Parsed
 toldCommand (parsedCommand.Fields c) = gives (commandFields (c .clear) (c .body))

@@ -5,8 +5,8 @@ use types::Cntr;
 use types::Command;
 use types::CommandBody;
 use types::Kind;
-use types::MOST_OCTETS;
 use types::Opaque;
+use types::PACKET_OCTETS;
 use types::ParsedCommand;
 use types::ParsedResponse;
 use types::PlainCommand;
@@ -77,10 +77,10 @@ pub fn judge(kind: Kind, packet: &[u8]) -> Judged
     ensures { λ r. ⌜ toldJudged r ≡ readable kind (now (packet .entry)) (gives (chl (now (packet .entry)))) ⌝ }
 {
     if !well_formed(kind, packet) {
-        return Judged::Refused(Refusal::NotWellFormed);
+        return Judged::Refused(Refusal::MalformedPacket);
     }
-    if MOST_OCTETS < packet.len() {
-        return Judged::Refused(Refusal::PacketLength);
+    if PACKET_OCTETS < packet.len() {
+        return Judged::Refused(Refusal::PacketTooLong);
     }
     Judged::Readable(header_of(packet))
 }
@@ -141,13 +141,13 @@ fn data_length(packet: &[u8], header: usize) -> usize
 // A ciphered body.
 fn opaque_body(kind: Kind, packet: &[u8]) -> Opaque
     requires { ⌜ Formed kind (now packet) ⌝ }
-    ensures { λ r. ⌜ r .header ≡ chl (now (packet .entry)) ⌝ }
-    ensures { λ r. ⌜ r .octets ≡ length (now (packet .entry)) - (before kind + 3) ⌝ }
+    ensures { λ r. ⌜ r .«header_length» ≡ chl (now (packet .entry)) ⌝ }
+    ensures { λ r. ⌜ r .«opaque_length» ≡ length (now (packet .entry)) - (before kind + 3) ⌝ }
 {
     let from = layout::before(kind) + 3;
     Opaque {
-        header: packet[2],
-        octets: packet.len() - from,
+        header_length: packet[2],
+        opaque_length: packet.len() - from,
     }
 }
 
@@ -156,14 +156,14 @@ fn plain_command(packet: &[u8], header: usize) -> PlainCommand
     requires { ⌜ Formed Kind.Command (now packet) ⌝ }
     requires { ⌜ header ≡ chl (now packet) ⌝ }
     ensures { λ r. ⌜ counterOctets (r .cntr) (r .pcntr ∷ []) ≡ take 6 (drop 10 (now (packet .entry))) ⌝ }
-    ensures { λ r. ⌜ (r .check ≡ header - 13) × (r .data ≡ length (now (packet .entry)) - (header + 3)) ⌝ }
+    ensures { λ r. ⌜ (r .«check_length» ≡ header - 13) × (r .«data_length» ≡ length (now (packet .entry)) - (header + 3)) ⌝ }
 {
     let cntr = cntr_at(packet, 10);
     PlainCommand {
         cntr: cntr,
         pcntr: packet[15],
-        check: check_length(Kind::Command, header),
-        data: data_length(packet, header),
+        check_length: check_length(Kind::Command, header),
+        data_length: data_length(packet, header),
     }
 }
 
@@ -172,15 +172,15 @@ fn plain_response(packet: &[u8], header: usize) -> PlainResponse
     requires { ⌜ Formed Kind.Response (now packet) ⌝ }
     requires { ⌜ header ≡ chl (now packet) ⌝ }
     ensures { λ r. ⌜ counterOctets (r .cntr) (r .pcntr ∷ r .status ∷ []) ≡ take 7 (drop 6 (now (packet .entry))) ⌝ }
-    ensures { λ r. ⌜ (r .check ≡ header - 10) × (r .data ≡ length (now (packet .entry)) - (header + 3)) ⌝ }
+    ensures { λ r. ⌜ (r .«check_length» ≡ header - 10) × (r .«data_length» ≡ length (now (packet .entry)) - (header + 3)) ⌝ }
 {
     let cntr = cntr_at(packet, 6);
     PlainResponse {
         cntr: cntr,
         pcntr: packet[11],
         status: packet[12],
-        check: check_length(Kind::Response, header),
-        data: data_length(packet, header),
+        check_length: check_length(Kind::Response, header),
+        data_length: data_length(packet, header),
     }
 }
 

@@ -38,7 +38,7 @@ fn with_tally(s: Session, t: Tally) -> Session {
 fn written(t: Tally, text: &[u8]) -> Tally {
     let mut u = t;
     if t.input.well {
-        let well = io::write_all(STDOUT_FILENO, skelmarix::up_to(text, t.end));
+        let well = io::write_all(STDOUT_FILENO, skelmarix::first_octets(text, t.end));
         if !well {
             os::fail(b"replay: write");
         }

@@ -303,9 +303,6 @@ module _ (k : Kind) (octets : List ℕ) (z : Arrival) (start : ℕ) (own : List 
   pub single-fits : (output : List ℕ) → z ≡ arrival.Single start → length output ≡ mostOctets → length own ≤ length output
   single-fits output e l = let f : length (drop start octets) ≤ mostOctets = rw e at fits in omega (arith, ap length is)
 
-  pub part-admitted : (key : Key) (total number : ℕ) → z ≡ arrival.Part key total number start → Admitted k key total number own
-  part-admitted key total number e = rw is (rw e at fits)
-
 -- ---- taking
 module _ (r : Record) (cells output : List ℕ) (z : Arrival) (a : After) where
   pub message-taken : (sender : ℕ) (ud : List ℕ) → toldArrival z ≡ readMessage (r .kind) sender ud

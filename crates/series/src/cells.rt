@@ -1,7 +1,6 @@
 // The cells, where the parts of unfinished series lie in the buffer that the caller lends: a part is stored, compared and read again.
 use types::PART_OCTETS;
 use types::PARTS;
-use types::SLOTS;
 ghost use mathlib.Core.Path.{_≡_};
 ghost use Prim.Native.Nat.{_≤_};
 ghost use lib.ListN.{length};
@@ -9,9 +8,6 @@ ghost use Rattle.octets.specs.Octets.{placed, sameOctets};
 ghost use Rattle.slots.specs.Slots.{slotCount};
 ghost use Rattle.series.specs.Cells.{cellOctets, cellsSize, cellAt};
 ghost use Rattle.series.specs.Handing.{Place, cellStart, Short, pieceOf};
-
-// How many octets the cells have together: one for each part of each slot, as long as a part can be.
-pub(crate) const CELLS: usize = SLOTS * PARTS * PART_OCTETS;
 
 // Where part k of slot s begins.
 pub(crate) fn cell_at(s: usize, k: usize) -> usize

@@ -1,7 +1,6 @@
 // Taking a message or a page (01, "Series" and "Numbers of refusal"): 1, then what reading refuses, then 7, 8, 9. What is due is decided
 // before anything is written.
 use crate::cells;
-use crate::cells::CELLS;
 use crate::packets;
 use formed::record_formed;
 use joined::Size;
@@ -10,9 +9,10 @@ use slots::find::Seat;
 use slots::order;
 use types::Answer;
 use types::Arrival;
+use types::CELLS_OCTETS;
 use types::Key;
 use types::Kind;
-use types::MOST_OCTETS;
+use types::PACKET_OCTETS;
 use types::PARTS;
 use types::Record;
 use types::Refusal;
@@ -147,7 +147,7 @@ fn handed(size: Size) -> Answer
 {
     match size {
         Size::Octets(n) => Answer::Packet { length: n },
-        Size::None => Answer::Refused(Refusal::NotWellFormed),
+        Size::None => Answer::Refused(Refusal::MalformedPacket),
     }
 }
 
@@ -248,7 +248,7 @@ fn unfit(state: Record, cells: usize, out: usize) -> bool
     ensures { λ r. ⌜ r ≡ (not (eqb cells (cellsSize slotCount)) || not (eqb out mostOctets) || not (recordFormed slotCount state)) ⌝ }
 {
     let formed = record_formed(state);
-    (cells != CELLS) | (out != MOST_OCTETS) | !formed
+    (cells != CELLS_OCTETS) | (out != PACKET_OCTETS) | !formed
 }
 
 // The answer and the record, as they are handed back.

@@ -1,13 +1,18 @@
 // Skelmarix: secured packets over short messages and cell broadcast pages. What a user names of the crates below, and nothing of its own; the
 // calls that only these crates make of one another stay with them.
 
-// Octets: numbers as pairs, a total put, the comparison.
-pub use octets::number_of;
-pub use octets::pair_of;
-pub use octets::put;
-pub use octets::same;
-pub use octets::up_to;
-pub use types::Pair;
+// Sizes of what a caller lends, and the number of slots.
+pub use types::CELLS_OCTETS;
+pub use types::CHECKSUM_OCTETS;
+pub use types::PACKET_OCTETS;
+pub use types::PAGE_OCTETS;
+pub use types::SLOTS;
+pub use types::USER_DATA_OCTETS;
+
+// What an answer is about: the octets at the start of the buffer that was lent.
+pub use octets::given::packet_in;
+pub use octets::given::part_in;
+pub use octets::given::written_in;
 
 // Packets: reading, showing, building, the octets of a checksum.
 pub use build::build_ciphered_command;
@@ -16,10 +21,9 @@ pub use build::build_command;
 pub use build::build_response;
 pub use checksum::command_checksum;
 pub use checksum::response_checksum;
-pub use packet::read::formed;
 pub use packet::read::parse_command;
 pub use packet::read::parse_response;
-pub use packet::read::well_formed;
+pub use packet::read::well_formed as packet_formed;
 pub use packet::show::command_check;
 pub use packet::show::command_data;
 pub use packet::show::command_opaque;
@@ -56,7 +60,7 @@ pub use types::SerialNumber;
 pub use formed::record_formed;
 pub use series::take::take_message;
 pub use series::take::take_page;
-pub use slots::find::fresh;
+pub use slots::find::fresh as fresh_record;
 pub use types::Answer;
 pub use types::Record;
 pub use types::Slot;
@@ -66,3 +70,11 @@ pub use types::Taken;
 pub use split::write_message;
 pub use split::write_page;
 pub use types::WrittenPart;
+
+// Octets: the first of a slice, some put into a buffer, two slices compared, a number as the pair that is on the air.
+pub use octets::number_of;
+pub use octets::pair_of;
+pub use octets::put as put_octets;
+pub use octets::same as same_octets;
+pub use octets::up_to as first_octets;
+pub use types::Pair;

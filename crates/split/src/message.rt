@@ -56,17 +56,17 @@ pub(crate) fn due(
         return Due::Refused(Refusal::BufferOrRecord);
     }
     if !reference_fits(width, reference) {
-        return Due::Refused(Refusal::Reference);
+        return Due::Refused(Refusal::ReferenceWidth);
     }
     if !packet::read::well_formed(kind, packet) {
-        return Due::Refused(Refusal::NotWellFormed);
+        return Due::Refused(Refusal::MalformedPacket);
     }
     if most_split(width) < packet.len() {
-        return Due::Refused(Refusal::PacketLength);
+        return Due::Refused(Refusal::PacketTooLong);
     }
     let total = parts(width, packet.len());
     if part::no_such_part(total, number) {
-        return Due::Refused(Refusal::Number);
+        return Due::Refused(Refusal::PartNumber);
     }
     Due::Total(total)
 }

@@ -33,17 +33,17 @@ pub(crate) fn due(identifier: MessageIdentifier, number: u32, packet: &[u8], siz
         return Due::Refused(Refusal::BufferOrRecord);
     }
     if !in_range(identifier) {
-        return Due::Refused(Refusal::Identifier);
+        return Due::Refused(Refusal::WrongIdentifier);
     }
     if !packet::read::well_formed(Kind::Command, packet) {
-        return Due::Refused(Refusal::NotWellFormed);
+        return Due::Refused(Refusal::MalformedPacket);
     }
     if MOST_PAGES < packet.len() {
-        return Due::Refused(Refusal::PacketLength);
+        return Due::Refused(Refusal::PacketTooLong);
     }
     let total = pages(packet.len());
     if part::no_such_part(total, number) {
-        return Due::Refused(Refusal::Number);
+        return Due::Refused(Refusal::PartNumber);
     }
     Due::Total(total)
 }

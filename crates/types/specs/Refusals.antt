@@ -4,26 +4,26 @@ use mathlib.Core.Bool.{Bool, true, false}
 use mathlib.Core.List.{List, _++_}
 use lib.ListN.{length, drop}
 use Rattle.types.specs.declared.Refusal.{Refusal}
-use Rattle.types.specs.declared.Refusal.the-variants.{BufferOrRecord, Size, Header, Element, Identifier, Total, OtherTotal, OtherOctets, NotWellFormed, Cipher, HeaderLength, PacketLength, Reference, Number}
+use Rattle.types.specs.declared.Refusal.the-variants.{BufferOrRecord, InputLength, HeaderOverrun, HeaderElement, WrongIdentifier, TooManyParts, OtherTotal, OtherOctets, MalformedPacket, CipherMismatch, PacketHeader, PacketTooLong, ReferenceWidth, PartNumber}
 use Rattle.types.specs.declared.Written.{Written}
 use Rattle.types.specs.declared.Written.the-variants.{Octets, Refused}
 
 -- the number that the table of 01 gives to each
 abbrev pub refusalNumber : Refusal → ℕ
 refusalNumber BufferOrRecord = 1
-refusalNumber Size = 2
-refusalNumber Header = 3
-refusalNumber Element = 4
-refusalNumber Identifier = 5
-refusalNumber Total = 6
+refusalNumber InputLength = 2
+refusalNumber HeaderOverrun = 3
+refusalNumber HeaderElement = 4
+refusalNumber WrongIdentifier = 5
+refusalNumber TooManyParts = 6
 refusalNumber OtherTotal = 7
 refusalNumber OtherOctets = 8
-refusalNumber NotWellFormed = 9
-refusalNumber Cipher = 10
-refusalNumber HeaderLength = 11
-refusalNumber PacketLength = 12
-refusalNumber Reference = 13
-refusalNumber Number = 14
+refusalNumber MalformedPacket = 9
+refusalNumber CipherMismatch = 10
+refusalNumber PacketHeader = 11
+refusalNumber PacketTooLong = 12
+refusalNumber ReferenceWidth = 13
+refusalNumber PartNumber = 14
 
 -- what a call comes to: a refusal by its number, or what it gives
 pub data Outcome (A : Type 0) : Type 0 where

@@ -8,22 +8,38 @@ pub enum Kind {
     Response,
 }
 
-// Why a call was refused. `Refusals.antt` gives each its number.
+// Why a call was refused: its number, its condition, and the calls that give it. `Refusals.antt` has the numbers as a rule.
 pub enum Refusal {
+    // 1: a lent buffer of another length than it must have, or a record that is not well formed. Taking, building, checksum octets, writing.
     BufferOrRecord,
-    Size,
-    Header,
-    Element,
-    Identifier,
-    Total,
+    // 2: user data of more than 140 octets, or a page of other than 88. Taking, reading.
+    InputLength,
+    // 3: user data that are empty, a header length not below theirs, or an element that runs past the header's end. Taking, reading: messages.
+    HeaderOverrun,
+    // 4: a concatenation or packet identifier element of a wrong length, or twice; a page whose number is above its total. Taking, reading.
+    HeaderElement,
+    // 5: a packet identifier that is missing, out of place or of the other kind; a page for a record of responses; a message identifier
+    // outside 1080 to 109F. Taking, reading, writing a page.
+    WrongIdentifier,
+    // 6: more than sixteen parts. Taking, reading: messages.
+    TooManyParts,
+    // 7: the series is held with another total. Taking.
     OtherTotal,
+    // 8: the part is held with other octets. Taking.
     OtherOctets,
-    NotWellFormed,
-    Cipher,
-    HeaderLength,
-    PacketLength,
-    Reference,
-    Number,
+    // 9: octets that are no well-formed packet, or not of the length that its pages allow. Taking, parsing, checksum octets, writing.
+    MalformedPacket,
+    // 10: a plain body where SPI says ciphered, or the other way round; checksum octets of a ciphered packet. Building a command, checksum octets.
+    CipherMismatch,
+    // 11: a check field, a header length or opaque octets that the header of a packet cannot have. Building.
+    PacketHeader,
+    // 12: a packet longer than can be carried: 2,142 octets, 2,126 with references of 16 bits, 1,230 in pages. Parsing, building, checksum
+    // octets, writing.
+    PacketTooLong,
+    // 13: a width other than 8 and 16, or a reference that does not fit it. Writing a message.
+    ReferenceWidth,
+    // 14: a part or page of number 0, or of a number above the total. Writing.
+    PartNumber,
 }
 
 impl Refusal {
@@ -33,19 +49,19 @@ impl Refusal {
     {
         match self {
             Refusal::BufferOrRecord => 1,
-            Refusal::Size => 2,
-            Refusal::Header => 3,
-            Refusal::Element => 4,
-            Refusal::Identifier => 5,
-            Refusal::Total => 6,
+            Refusal::InputLength => 2,
+            Refusal::HeaderOverrun => 3,
+            Refusal::HeaderElement => 4,
+            Refusal::WrongIdentifier => 5,
+            Refusal::TooManyParts => 6,
             Refusal::OtherTotal => 7,
             Refusal::OtherOctets => 8,
-            Refusal::NotWellFormed => 9,
-            Refusal::Cipher => 10,
-            Refusal::HeaderLength => 11,
-            Refusal::PacketLength => 12,
-            Refusal::Reference => 13,
-            Refusal::Number => 14,
+            Refusal::MalformedPacket => 9,
+            Refusal::CipherMismatch => 10,
+            Refusal::PacketHeader => 11,
+            Refusal::PacketTooLong => 12,
+            Refusal::ReferenceWidth => 13,
+            Refusal::PartNumber => 14,
         }
     }
 }
@@ -63,8 +79,8 @@ pub struct Cntr(pub u8, pub u8, pub u8, pub u8, pub u8);
 pub struct PlainCommand {
     pub cntr: Cntr,
     pub pcntr: u8,
-    pub check: usize,
-    pub data: usize,
+    pub check_length: usize,
+    pub data_length: usize,
 }
 
 // A plain response's fields from its counter on.
@@ -72,14 +88,14 @@ pub struct PlainResponse {
     pub cntr: Cntr,
     pub pcntr: u8,
     pub status: u8,
-    pub check: usize,
-    pub data: usize,
+    pub check_length: usize,
+    pub data_length: usize,
 }
 
 // A ciphered body is opaque from its counter on: the header length that the packet states, and how many octets are opaque.
 pub struct Opaque {
-    pub header: u8,
-    pub octets: usize,
+    pub header_length: u8,
+    pub opaque_length: usize,
 }
 
 pub enum CommandBody {
@@ -195,9 +211,17 @@ pub struct Taken {
     pub record: Record,
 }
 
-// ---- sizes
-// The most octets of a packet, of user data, and of a part of a short message behind its header; those of a page, and of its content.
-pub const MOST_OCTETS: usize = 2142;
+// ---- sizes of what a caller lends
+// The most octets of a packet: the output of taking, the buffer of building.
+pub const PACKET_OCTETS: usize = 2142;
+
+// The buffer of checksum octets: the longest packet, and three octets before it.
+pub const CHECKSUM_OCTETS: usize = PACKET_OCTETS + 3;
+
+// The cells: one for each part of each slot, as long as a part can be.
+pub const CELLS_OCTETS: usize = SLOTS * PARTS * PART_OCTETS;
+
+// The most octets of user data, and of a part of a short message behind its header; those of a page, and of its content.
 
 pub const USER_DATA_OCTETS: usize = 140;
 
