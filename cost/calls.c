@@ -69,7 +69,7 @@ static void take_message(void) { taken = cost_take_message(record, 7, ud, length
 static void take_page(void) { taken = cost_take_page(record, page, PAGE, cells, CELLS, out, MOST); }
 static void read_message(void) { length = cost_read_message(0, 7, ud, length); }
 static void read_page(void) { length = cost_read_page(0, page, PAGE); }
-static void fresh(void) { record = cost_fresh(0); }
+static void fresh(void) { record = cost_fresh_record(0); }
 static void formed(void) { length = cost_record_formed(record); }
 static void parse_command(void) { length = cost_parse_command(packet, MOST); }
 static void parse_short(void) { length = cost_parse_command(packet, 100); }
@@ -90,16 +90,18 @@ static void command_opaque(void) { length = cost_command_opaque(packet, MOST); }
 static void response_check(void) { length = cost_response_check(response, MOST, false); }
 static void response_data(void) { length = cost_response_data(response, MOST, false); }
 static void response_opaque(void) { length = cost_response_opaque(response, MOST, true); }
-static void well_formed(void) { length = cost_well_formed(0, packet, MOST); }
-static void length_formed(void) { length = cost_formed(0, MOST, packet[0], packet[1], packet[2]); }
+static void packet_formed(void) { length = cost_packet_formed(0, packet, MOST); }
 static void own_octets(void) { length = cost_own_octets(ud, UD, 6); }
 static void number_of(void) { length = cost_number_of(packet[0], packet[1]); }
 static void pair_of(void) { length = cost_pair_of(MOST); }
-static void put(void) { length = cost_put(packet, UD, out, MOST, 1000); }
-static void same(void) { length = cost_same(packet, UD, small, SMALL); }
-static void same_not(void) { length = cost_same(packet + 3, 134, response + 4, 134); }
-static void same_long(void) { length = cost_same(packet + 3, 134, response + 3, 134); }
-static void up_to(void) { length = cost_up_to(packet, MOST, UD); }
+static void put(void) { length = cost_put_octets(packet, UD, out, MOST, 1000); }
+static void same(void) { length = cost_same_octets(packet, UD, small, SMALL); }
+static void same_not(void) { length = cost_same_octets(packet + 3, 134, response + 4, 134); }
+static void same_long(void) { length = cost_same_octets(packet + 3, 134, response + 3, 134); }
+static void first_octets(void) { length = cost_first_octets(packet, MOST, UD); }
+static void packet_in(void) { length = cost_packet_in(UD, out, MOST); }
+static void written_in(void) { length = cost_written_in(UD, out, MOST); }
+static void part_in(void) { length = cost_part_in(UD, ud, UD); }
 
 /* ---- what they work on */
 static void stated(uint8_t *p, const uint8_t *from, size_t n, uint8_t header) {
@@ -166,7 +168,7 @@ static void pages(void) {
 }
 
 static void records(void) {
-    run("fresh", fresh);
+    run("fresh_record", fresh);
     gives("record_formed, fresh", formed, 1);
     hold(1, 1), hold(2, 1), hold(3, 1);
     gives("record_formed, three series held", formed, 1);
@@ -190,21 +192,23 @@ static void packets(void) {
     gives("response_check", response_check, 8);
     gives("response_data", response_data, 2121);
     gives("response_opaque", response_opaque, 2136);
-    gives("well_formed", well_formed, 1);
-    gives("formed", length_formed, 1);
+    gives("packet_formed", packet_formed, 1);
     gives("write_message, part 2 of 16", write_message, UD);
     gives("write_page, page 2 of 15", write_page, PAGE);
 }
 
 static void octets(void) {
     gives("own_octets", own_octets, 134);
+    gives("packet_in", packet_in, UD);
+    gives("written_in", written_in, UD);
+    gives("part_in", part_in, UD);
     gives("number_of", number_of, MOST - 2);
     gives("pair_of", pair_of, MOST & 255);
-    gives("put, 140 octets", put, 1);
-    gives("same, other lengths", same, 0);
-    gives("same, 134 octets that differ at the first", same_not, 0);
-    gives("same, 134 octets that are the same", same_long, 1);
-    gives("up_to", up_to, UD);
+    gives("put_octets, 140 octets", put, 1);
+    gives("same_octets, other lengths", same, 0);
+    gives("same_octets, 134 octets that differ at the first", same_not, 0);
+    gives("same_octets, 134 octets that are the same", same_long, 1);
+    gives("first_octets", first_octets, UD);
 }
 
 int main(int argc, char **argv) {
