@@ -35,7 +35,7 @@ use Rattle.series.specs.CaseLaws.{Bears, Lacks, Case, other-total, other-octets
 use Rattle.series.specs.KeepLaws.{short}
 use Rattle.demands.specs.Lists.{concat, elem, elemKey, add, addKey, complete}
 use Rattle.demands.specs.Runs.{Call, outcome}
-use Rattle.demands.specs.Wake.{Cut, messages, pages, History, counts, firstSlot, Place, lowest-free, least-recent, later, Served, again as served-again, waits, wakes}
+use Rattle.demands.specs.Wake.{Cut, messages, pages, History, counts, firstSlot, Seating, lowest-free, least-recent, later, Served, again as served-again, waits, wakes}
 use Rattle.demands.proofs.Lists.{add-old, add-not-nil, first-known, complete-add, one-short, elem-key-add, elem-key-self, length-add-key, pigeon, keys-apart, joined-parts}
 use Rattle.demands.proofs.Track.{aged-mono, closed-mono, length-short, Track, lacks-moved, track-moved, track-again, track-kept}
 
@@ -168,7 +168,7 @@ pub record Serves (n : ℕ) (k : Kind) (K : Key) (P : List ℕ) (parts : List (L
   pub phase : Phase n K parts (a .state .rec .slots) (a .state .cells) (add number (q .arrived)) (firstSlot (q .arrived) (a .answer) (q .slot)) []
 
 -- a part that is kept is in the slot of the first answer
-named : {n : ℕ} {rank : ℕ → ℕ} {i : ℕ} {d : Bool} (q : History) → Place n rank q i d → firstSlot (q .arrived) (kept i d) (q .slot) ≡ i
+named : {n : ℕ} {rank : ℕ → ℕ} {i : ℕ} {d : Bool} (q : History) → Seating n rank q i d → firstSlot (q .arrived) (kept i d) (q .slot) ≡ i
 named q (lowest-free z l f lower) = rw z
 named q (least-recent z l all) = rw z
 named {i = i} q (later begun is) = first-known (q .arrived) (kept i false) (q .slot) begun ∙ sym is
@@ -196,7 +196,7 @@ module _ (n : ℕ) (k : Kind) (K : Key) (P : List ℕ) (parts : List (List ℕ))
       → ((m : ℕ) → 1 ≤ m → m ≤ mostParts → heldAt x m ≡ elem m (q .arrived))
       → ((m : ℕ) → 1 ≤ m → m ≤ mostParts → elem m (q .arrived) ≡ true → (lengthAt x m ≤ cellOctets) × (cellPart (q .store .cells) x i m ≡ getD parts (m - 1) []))
       → elem number (q .arrived) ≡ false → complete (length parts) (add number (q .arrived)) ≡ false
-      → Place n (λ j. slotAt own j .rank) q i d → Fine (acted n s K (length parts) number o (keeps i d x))
+      → Seating n (λ j. slotAt own j .rank) q i d → Fine (acted n s K (length parts) number o (keeps i d x))
   fine-kept i inside d x e t ls ms held octets new open′ place =
       let tr = track-kept n K parts k own (w .size) (q .store .cells) long i inside x e t ls ms (q .arrived) held octets number (adm .low) high o small brought in
       let r = withSlots (q .store .rec) (toFront own i (withPart x number (length o))) in
@@ -293,7 +293,7 @@ module _ (n : ℕ) (k : Kind) (K : Key) (P : List ℕ) (parts : List (List ℕ))
 
   -- no slot bears the key yet
   module _ (none-yet : q .arrived ≡ []) (lacks : Lacks n own K) where
-    fine-new : (i : ℕ) → i < n → (d : Bool) → Place n (λ j. slotAt own j .rank) q i d → Fine (acted n s K (length parts) number o (keeps i d (opened K (length parts))))
+    fine-new : (i : ℕ) → i < n → (d : Bool) → Seating n (λ j. slotAt own j .rank) q i d → Fine (acted n s K (length parts) number o (keeps i d (opened K (length parts))))
     fine-new i l d place =
         fine-kept i l d (opened K (length parts)) refl refl (length-replicate {A = ℕ} mostParts 0) (length-replicate mostParts false)
         (λ m a b. getD-replicate mostParts (m - 1) false false (omega arith) ∙ sym (ap (elem m) none-yet))

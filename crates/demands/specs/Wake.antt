@@ -50,10 +50,10 @@ firstSlot (m ∷ got) answer was = was
 
 -- "A new key takes the lowest free slot; with none free it displaces the least recent series": the slot, and the mark of displacement. Later
 -- it is the slot of the first answer, and no mark. A free slot has rank 0, the most recent series rank 1.
-pub data Place (n : ℕ) (rank : ℕ → ℕ) (w : History) (i : ℕ) : Bool → Type 0 where
-  lowest-free : w .arrived ≡ [] → i < n → rank i ≡ 0 → ((j : ℕ) → j < i → 0 < rank j) → Place n rank w i false
-  least-recent : w .arrived ≡ [] → i < n → ((j : ℕ) → j < n → (0 < rank j) × (rank j ≤ rank i)) → Place n rank w i true
-  later : (w .arrived ≡ [] → ⊥) → i ≡ w .slot → Place n rank w i false
+pub data Seating (n : ℕ) (rank : ℕ → ℕ) (w : History) (i : ℕ) : Bool → Type 0 where
+  lowest-free : w .arrived ≡ [] → i < n → rank i ≡ 0 → ((j : ℕ) → j < i → 0 < rank j) → Seating n rank w i false
+  least-recent : w .arrived ≡ [] → i < n → ((j : ℕ) → j < n → (0 < rank j) × (rank j ≤ rank i)) → Seating n rank w i true
+  later : (w .arrived ≡ [] → ⊥) → i ≡ w .slot → Seating n rank w i false
 
 module _ (n : ℕ) (k : Kind) (K : Key) where
   -- What is seen after a call. Which call bears a key is told by reading its octets, never by its answer.
@@ -89,7 +89,7 @@ module _ (n : ℕ) (k : Kind) (K : Key) where
           → outcome n (w .store) c ≡ after (heldAlready (w .slot)) r (w .store .cells) (c .output) → Served w c total number start
       waits : (r : Record) (i : ℕ) (d : Bool) → elem number (w .arrived) ≡ false → complete (length parts) (add number (w .arrived)) ≡ false
           → outcome n (w .store) c ≡ after (kept i d) r (placed (w .store .cells) (cellAt i number) (getD parts (number - 1) [])) (c .output)
-          → Place n (λ j. slotAt (w .store .rec .slots) j .rank) w i d → Bears n (r .slots) K i → Served w c total number start
+          → Seating n (λ j. slotAt (w .store .rec .slots) j .rank) w i d → Bears n (r .slots) K i → Served w c total number start
       wakes : (r : Record) → elem number (w .arrived) ≡ false → complete (length parts) (add number (w .arrived)) ≡ true → Lacks n (r .slots) K
           → outcome n (w .store) c ≡ after (packet (length P)) r (w .store .cells) (P ++ drop (length P) (c .output)) → Served w c total number start
 
