@@ -195,7 +195,7 @@ pub fn shown() -> Row {
     }
 }
 
-// What writing to the third buffer came to: a name, how many octets stand at its start, and these.
+// What writing to the third buffer gave: a name, how many octets are at its start, and these.
 pub fn written(name: u64, w: Written) -> Row {
     match w {
         Written::Octets(n) => one(name, 10, n as u64),

@@ -16,7 +16,7 @@ ghost use mathlib.Core.Path.{_≡_};
 ghost use Rattle.arrival.specs.Arrivals.{toldArrival};
 ghost use Rattle.arrival.specs.Message.{alone, own, foreign, opens, misplaced, messageKey, judged, readMessage};
 
-// Whether a message with this concatenation stands alone: the element is ignored, or says one of one.
+// Whether a message with this concatenation is alone: the element is ignored, or says one of one.
 fn is_alone(c: Concatenation) -> bool
     ensures { λ r. ⌜ r ≡ alone c ⌝ }
 {

@@ -11,7 +11,7 @@ ghost use mathlib.Core.Bool.{true, false};
 ghost use lib.ListN.{getD, take};
 ghost use Rattle.bench.specs.Lines.{atStart, held, changed, Leaves, Untouched};
 
-// What is held beside the buffers: the record, how many octets of cells, output and buffer are lent (`RIGHT` stands for the right number), and
+// What is held beside the buffers: the record, how many octets of cells, output and buffer are lent (`RIGHT` means the right number), and
 // whether answers are numbered.
 pub struct Bench {
     pub record: types::Record,
@@ -19,7 +19,7 @@ pub struct Bench {
     pub numbered: bool,
 }
 
-// What a line comes to: what is held afterwards, and where the text ends with its answer.
+// The result of a line: what is held afterwards, and where the text ends with its answer.
 pub struct Heard {
     pub bench: Bench,
     pub understood: bool,
@@ -85,7 +85,7 @@ fn done(
     answered(made.bench, end)
 }
 
-// Answers a line behind what stands in the text up to `at`. The line's octets are read to its own start.
+// Answers a line behind the text up to `at`. The line's octets are read to its own start.
 pub fn answer(
     line: &mut [u8],
     b: Bench,

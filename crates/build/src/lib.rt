@@ -26,7 +26,7 @@ fn differ(a: bool, b: bool) -> bool
     if a { !b } else { b }
 }
 
-// Whether a body is plain or ciphered against SPI, whose first octet stands first behind the lengths of a command.
+// Whether a body is plain or ciphered against SPI, whose first octet is the first behind the lengths of a command.
 fn against(kind: Kind, first: u8, ciphered: bool) -> bool
     ensures { λ r. ⌜ r ≡ againstOctet kind first ciphered ⌝ }
 {
@@ -116,7 +116,7 @@ fn write(header: usize, head: &mut [u8], front: &[u8], back: &[u8], out: &mut [u
     size
 }
 
-// Builds either body: where nothing refuses it, the packet is written. A header length that does not fit is refused as a misfit.
+// Builds either body: if nothing refuses it, the packet is written. A header length that does not fit is refused as a misfit.
 fn build(
     kind: Kind,
     ciphered: bool,
@@ -138,7 +138,7 @@ fn build(
     }
 }
 
-// Builds a plain body behind the fixed fields that stand in the head.
+// Builds a plain body behind the fixed fields in the head.
 fn build_plain(kind: Kind, head: &mut [u8], check: &[u8], secured: &[u8], out: &mut [u8]) -> Written
     requires { ⌜ length (now head) ≡ 3 + least kind ⌝ }
     ensures { λ r. ⌜ lent (toldWritten r) (now (out .exit)) ≡ built kind (plain (drop 3 (now (head .entry))) (now (check .entry)) (now (secured .entry))) (now (out .entry)) ⌝ }
@@ -157,7 +157,7 @@ fn build_plain(kind: Kind, head: &mut [u8], check: &[u8], secured: &[u8], out: &
     )
 }
 
-// Builds a ciphered body behind the fields in the clear that stand in the head.
+// Builds a ciphered body behind the fields in the clear in the head.
 fn build_ciphered(
     kind: Kind,
     head: &mut [u8],

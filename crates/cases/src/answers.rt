@@ -10,10 +10,10 @@ pub const DIFFERS: u8 = 255;
 // The command packet that 01 calls M.
 pub const M: [u8; 16] = [0, 0x0E, 0x0D, 0, 0, 0, 0, 0xB0, 0, 0x10, 0, 0, 0, 0, 0, 0];
 
-// What stands in a lent buffer before a call: nothing may count on zeros.
+// What is in a lent buffer before a call: nothing may count on zeros.
 pub const BEFORE: u8 = 0xA5;
 
-// What the last call of an example comes to.
+// The result of the last call of an example.
 pub enum Expected {
     // Refused, or M handed out, sixteen octets and no more: no slot is used.
     Ended,
@@ -51,7 +51,7 @@ pub fn among(slot: usize, displaced: bool, first: u16, second: u16, third: u16) 
     }
 }
 
-// The number of an example, where all else is as 01 says.
+// The number of an example, if all else is as 01 says.
 pub fn held_to(as_said: bool, number: u8) -> u8 {
     if as_said { number } else { DIFFERS }
 }
@@ -64,7 +64,7 @@ fn begins_with_m(out: &[u8]) -> bool {
     skelmarix::same_octets(first_octets(out, 16), &M) & (out[16] == BEFORE)
 }
 
-// What stands for the reference of a free slot.
+// The number that is used for the reference of a free slot.
 pub const NONE: u16 = 65535;
 
 // The reference in slot i.

@@ -24,7 +24,7 @@ fn write(width: u32, number: u32, cpl: u16) -> WrittenPart {
     )
 }
 
-// The refusal number of an answer; 0 where a part was written, one of so many, and of this length.
+// The refusal number of an answer; 0 if a part was written, one of so many, and of this length.
 fn number(written: WrittenPart, parts: usize, size: usize) -> u8 {
     match written {
         WrittenPart::Refused(refusal) => refusal.number(),
@@ -34,7 +34,7 @@ fn number(written: WrittenPart, parts: usize, size: usize) -> u8 {
     }
 }
 
-// 0 where 138 octets are split in two parts, of these many octets of user data.
+// 0 if 138 octets are split in two parts, of these many octets of user data.
 fn two(width: u32, first: usize, second: usize) -> bool {
     let one = number(write(width, 1, 136), 2, first);
     let other = number(write(width, 2, 136), 2, second);

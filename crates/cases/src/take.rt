@@ -36,7 +36,7 @@ fn call(paged: bool, octets: &[u8], at: usize, last: usize) -> &[u8] {
     first_octets(rest, if paged { PAGE_OCTETS } else { 7 })
 }
 
-// Takes calls that lie one behind the other, up to that which begins at `last`.
+// Takes calls that are one behind the other, up to that which begins at `last`.
 fn each(
     paged: bool,
     start: Taken,
@@ -63,7 +63,7 @@ fn start() -> Taken {
     }
 }
 
-// The number of an example of calls that lie one behind the other, on a fresh record, with buffers that hold anything but zeros.
+// The number of an example of calls that are one behind the other, on a fresh record, with buffers that hold anything but zeros.
 fn example(paged: bool, octets: &[u8], last: u8, expected: Expected) -> u8 {
     let mut cells = [answers::BEFORE; CELLS_OCTETS];
     let mut out = [answers::BEFORE; PACKET_OCTETS];

@@ -16,7 +16,7 @@ ghost use Rattle.types.specs.Refusals.{gives, lent, writes, toldWritten};
 ghost use Rattle.packet.specs.Packets.{chl, cipheredCommand, fixedOctets, withoutCheck, checksummed};
 ghost use Rattle.packet.specs.Laws.{Formed};
 
-// Puts the octets that stand before the packet of a kind, and says how many they are.
+// Puts the octets that are before the packet of a kind, and says how many they are.
 fn fixed(kind: Kind, out: &mut [u8]) -> usize
     requires { ⌜ 3 ≤ length (now out) ⌝ }
     ensures { λ r. ⌜ (r ≡ length (fixedOctets kind)) × (r ≤ 3) ⌝ }

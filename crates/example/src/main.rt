@@ -48,7 +48,7 @@ fn carry(kind: Kind, packet: &[u8], out: &mut [u8]) -> Answer {
         // 8-bit reference 42: one number for all parts of a packet
         let number = order[i];
         let part = skelmarix::write_message(kind, 8, 42, number, packet, &mut ud);
-        // 7 stands for who sent it
+        // 7 is the number of the sender
         taken = skelmarix::take_message(taken.record, 7, part_in(part, &ud), &mut cells, out);
         let answer = taken.answer;
         tell(number, answer);

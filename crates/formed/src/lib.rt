@@ -124,7 +124,7 @@ fn all_zero(x: Slot) -> bool
 }
 
 // Whether each part of a used slot is as it can be. The bounds of a length depend on the key alone, but for part 1, which is looked at by
-// itself: where it is missing its length is 0, which fits.
+// itself: if it is missing its length is 0, which fits.
 fn parts_formed(x: Slot) -> bool
     ensures { λ r. ⌜ r ≡ allBelow mostParts (partFormed x) ⌝ }
 {

@@ -1,4 +1,4 @@
-// Questions: on the record, and on what stands in a buffer.
+// Questions: on the record, and on what is in a buffer.
 use answers::Row;
 use answers::record;
 use answers::rows;

@@ -1,4 +1,4 @@
-// Lines that leave record and cells alone: calls on packets, arrivals and parts. Each is told by its row of the table, and its octets stand one
+// Lines that leave record and cells alone: calls on packets, arrivals and parts. Each is known by its row of the table, and its octets are one
 // word's behind the other's.
 mod asks;
 mod build;
@@ -23,7 +23,7 @@ ghost use Prim.Native.Nat.{_≤_};
 ghost use lib.ListN.{length, getD, replicate};
 ghost use Rattle.lines.specs.Lent.{lentOf, wantedOf};
 
-// A number of octets lent that stands for the right one.
+// A number of octets lent that means the right one.
 pub const RIGHT: usize = 65535;
 
 // How many octets of so many are lent: n, or the right number; all if there are fewer.

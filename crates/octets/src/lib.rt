@@ -34,7 +34,7 @@ pub fn number_of(high: u8, low: u8) -> u16
     half(high) * 256 + half(low)
 }
 
-// The first n octets of a slice, where they lie, or all where there are fewer.
+// The first n octets of a slice, where they are, or all if there are fewer.
 pub fn up_to<'a>(src: &'a [u8], n: usize) -> &'a [u8]
     ensures { λ r. ⌜ now r ≡ take n (now (src .entry)) ⌝ }
 {
@@ -44,7 +44,7 @@ pub fn up_to<'a>(src: &'a [u8], n: usize) -> &'a [u8]
     src
 }
 
-// Puts src into dst from the place `at` on, and says whether it fits there; where it does not, dst stays as it was.
+// Puts src into dst from the place `at` on, and says whether it fits there; if it does not, dst stays as it was.
 pub fn put(src: &[u8], dst: &mut [u8], at: usize) -> bool
     ensures { λ r. ⌜ r ≡ fitsAt (now (dst .entry)) at (now (src .entry)) ⌝ }
     ensures { λ _. ⌜ now (dst .exit) ≡ afterPut (now (dst .entry)) at (now (src .entry)) ⌝ }

@@ -28,7 +28,7 @@ ghost use Rattle.packet.specs.Judging.{toldJudged};
 
 // ---- well formed
 // Whether a packet of `size` octets that begins with these three is well formed: nothing else of a packet is looked at, so a caller whose
-// packet does not lie in one piece can ask too.
+// packet is not in one piece can ask too.
 pub fn formed(kind: Kind, size: usize, high: u8, low: u8, header: u8) -> bool
     ensures { λ r. ⌜ r ≡ formedBy kind size high low header ⌝ }
 {
@@ -108,7 +108,7 @@ fn cntr_at(packet: &[u8], at: usize) -> Cntr
     )
 }
 
-// What stands before the counter of a command.
+// What is before the counter of a command.
 fn clear_of(packet: &[u8]) -> Clear
     requires { ⌜ 10 ≤ length (now packet) ⌝ }
     ensures { λ r. ⌜ clearOctets r ≡ take 7 (drop 3 (now (packet .entry))) ⌝ }
@@ -130,7 +130,7 @@ fn check_length(kind: Kind, header: usize) -> usize
     header - layout::least(kind)
 }
 
-// How long the secured data is: what stands behind the header.
+// How long the secured data is: what is behind the header.
 fn data_length(packet: &[u8], header: usize) -> usize
     requires { ⌜ header + 3 ≤ length (now packet) ⌝ }
     ensures { λ r. ⌜ r ≡ length (now (packet .entry)) - (header + 3) ⌝ }
@@ -207,7 +207,7 @@ fn command(packet: &[u8], header: usize) -> Command
     }
 }
 
-// The fields of a well-formed response, whose body is ciphered where the caller says so.
+// The fields of a well-formed response, whose body is ciphered if the caller says so.
 fn response(packet: &[u8], ciphered: bool, header: usize) -> Response
     requires { ⌜ Formed Kind.Response (now packet) ⌝ }
     requires { ⌜ header ≡ chl (now packet) ⌝ }

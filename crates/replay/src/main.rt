@@ -10,7 +10,7 @@ use words::input::Input;
 // Past this place of the text there may be too little room for another answer.
 const NEARLY: usize = 32000;
 
-// Where the input stands, and what is told of the answers.
+// How far the input was read, and what is counted of the answers.
 struct Tally {
     input: Input,
     // how many lines were read, and how many of them were not understood or too long
@@ -126,7 +126,7 @@ fn take(
 }
 
 // ---- input
-// Where no line ends in what is left of the piece: the answers are written, and more is read.
+// If no line ends in what is left of the piece: the answers are written, and more is read.
 fn refill(t: Tally, piece: &mut [u8], text: &[u8]) -> Tally {
     let mut u = written(t, text);
     u.input = input::refill(u.input, piece);

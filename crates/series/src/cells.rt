@@ -1,4 +1,4 @@
-// The cells, where the parts of unfinished series lie in the buffer that the caller lends: a part is stored, compared and read again.
+// The cells, where the parts of unfinished series are in the buffer that the caller lends: a part is stored, compared and read again.
 use types::PART_OCTETS;
 use types::PARTS;
 ghost use mathlib.Core.Path.{_≡_};
@@ -17,7 +17,7 @@ pub(crate) fn cell_at(s: usize, k: usize) -> usize
     (PARTS * s + k - 1) * PART_OCTETS
 }
 
-// The first n octets of a cell, where they lie.
+// The first n octets of a cell, where they are.
 pub(crate) fn cell<'a>(cells: &'a [u8], s: usize, k: usize, n: usize) -> &'a [u8]
     requires { ⌜ Place s k ⌝ }
     requires { ⌜ (n ≤ cellOctets) × (length (now cells) ≡ cellsSize slotCount) ⌝ }
@@ -46,7 +46,7 @@ pub(crate) fn same_part(cells: &[u8], s: usize, k: usize, n: u8, part: &[u8]) ->
     octets::same(cell(cells, s, k, n as usize), part)
 }
 
-// Part k of a series, where it lies: the part that arrives, where k is its number, and otherwise the one that the cells hold.
+// Part k of a series, where it is: the part that arrives if k is its number, and otherwise the one that the cells hold.
 pub(crate) fn piece<'a>(
     cells: &'a [u8],
     lengths: &[u8; PARTS],

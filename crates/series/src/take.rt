@@ -141,7 +141,7 @@ fn keep(i: usize, displaced: bool, x: Slot, number: usize, part: &[u8], cells: &
     to_front(answer, i, find::with_part(x, number, n))
 }
 
-// What is answered where a packet of that length was handed out, and where there was none.
+// What is answered if a packet of that length was handed out, and if there was none.
 fn handed(size: Size) -> Answer
     ensures { λ r. ⌜ toldAnswer r ≡ answerOf (toldSize size) ⌝ }
 {

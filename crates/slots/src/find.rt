@@ -65,7 +65,7 @@ pub fn fresh(kind: Kind) -> Record
     }
 }
 
-// The slot with part `number`, of n octets; where no part has that number, the slot as it is.
+// The slot with part `number`, of n octets; if no part has that number, the slot as it is.
 pub fn with_part(x: Slot, number: usize, n: u8) -> Slot
     ensures { λ r. ⌜ r ≡ withPartIn x number n ⌝ }
 {
@@ -142,7 +142,7 @@ fn find_free(state: Record) -> Found
     find_rank(state, 0)
 }
 
-// The slot of the least recent series, where all are used.
+// The slot of the least recent series, if all are used.
 fn least_recent(state: Record) -> usize
     ensures { λ r. ⌜ (r ≡ leastRecent slotCount (state .slots)) × (r < slotCount) ⌝ }
 {

@@ -20,7 +20,7 @@ fn rank_after(front: bool, r: u8, q: u8) -> u8
     q
 }
 
-// The record with x in slot i, and the other slots at the ranks that they have once slot i has come to the front, or was freed. Where there
+// The record with x in slot i, and the other slots at the ranks that they have once slot i has come to the front, or was freed. If there
 // is no slot i, the record as it is.
 pub fn replaced(mut state: Record, i: usize, front: bool, x: Slot) -> Record
     ensures { λ r. ⌜ r ≡ replaced slotCount front state i x ⌝ }

@@ -83,7 +83,7 @@ fn own_octets(number: u32, packet: &[u8]) -> &[u8]
     part::cut(packet, from, PAGE_CONTENT)
 }
 
-// Writes page `number` of `total`, with 00 where the packet does not reach, and says how long a page is.
+// Writes page `number` of `total`, with 00 behind the end of the packet, and says how long a page is.
 pub(crate) fn write(
     serial: SerialNumber,
     identifier: MessageIdentifier,

@@ -29,7 +29,7 @@ pub enum Refusal {
     OtherOctets,
     // 9: octets that are no well-formed packet, or not of the length that its pages allow. Taking, parsing, checksum octets, writing.
     MalformedPacket,
-    // 10: a plain body where SPI says ciphered, or the other way round; checksum octets of a ciphered packet. Building a command, checksum octets.
+    // 10: a plain body although SPI says ciphered, or the other way round; checksum octets of a ciphered packet. Building a command, checksum octets.
     CipherMismatch,
     // 11: a check field, a header length or opaque octets that the header of a packet cannot have. Building.
     PacketHeader,
@@ -108,7 +108,7 @@ pub enum ResponseBody {
     Ciphered(Opaque),
 }
 
-// What stands before the counter of a command, in the clear also where the body is ciphered.
+// What is before the counter of a command, in the clear also if the body is ciphered.
 pub struct Clear {
     pub spi: Spi,
     pub kic: u8,
@@ -140,7 +140,7 @@ pub enum ParsedResponse {
     Refused(Refusal),
 }
 
-// What writing to a lent buffer answers: how many octets stand at its start.
+// What writing to a lent buffer answers: how many octets are at its start.
 pub enum Written {
     Octets(usize),
     Refused(Refusal),
@@ -232,11 +232,11 @@ pub const PAGE_OCTETS: usize = 88;
 pub const PAGE_CONTENT: usize = 82;
 
 // ---- splitting, and numbers on the air
-// What writing one part answers: how many parts the packet has, and how many octets stand at the buffer's start.
+// What writing one part answers: how many parts the packet has, and how many octets are at the buffer's start.
 pub enum WrittenPart {
     Part { total: usize, length: usize },
     Refused(Refusal),
 }
 
-// Two octets of a 16-bit number, the high one first, as they stand on the air.
+// Two octets of a 16-bit number, the high one first, as they are on the air.
 pub struct Pair(pub u8, pub u8);

@@ -6,9 +6,9 @@ use libc::STDIN_FILENO;
 // The most characters of a line.
 const MOST: usize = 9000;
 
-// Where reading stands.
+// How far reading has come.
 pub struct Input {
-    // where the line to come begins in the piece, and how many characters stand there
+    // where the line to come begins in the piece, and how many characters are there
     pub from: usize,
     pub count: usize,
     // whether more than fit were read of that line, so that it is passed, and whether it is a comment
@@ -175,7 +175,7 @@ fn read(i: Input, piece: &mut [u8]) -> Input {
     u
 }
 
-// Where no line ends in what is left of the piece: that is kept, and more is read behind it.
+// If no line ends in what is left of the piece: that is kept, and more is read behind it.
 pub fn refill(i: Input, piece: &mut [u8]) -> Input {
     let mut u = keep(i, piece);
     if u.more & u.well {

@@ -87,7 +87,7 @@ fn with_digit(name: bool, n: u64, x: u8) -> u64
     n * 10 + (x % 16) as u64
 }
 
-// The same, where every number above `most` counts as one more than that.
+// The same, but every number above `most` counts as one more than that.
 fn shifted(name: bool, most: u64, n: u64, x: u8) -> u64
     requires { ⌜ (most ≤ 1099511627775) × (n ≤ 1099511627776) ⌝ }
     ensures { λ r. ⌜ (r ≡ rule.shifted name most n x) × (r ≤ 1099511627776) ⌝ }
@@ -96,7 +96,7 @@ fn shifted(name: bool, most: u64, n: u64, x: u8) -> u64
     if v <= most { v } else { most + 1 }
 }
 
-// The name, or the number, that stands at a place.
+// The name, or the number, at a place.
 pub(crate) fn number_at(line: &[u8], from: usize, name: bool, most: u64) -> Number
     requires { ⌜ (from ≤ length (now line)) × (most ≤ 1099511627775) ⌝ }
     ensures { λ r. ⌜ Counted name most from (now (line .entry)) r ⌝ }

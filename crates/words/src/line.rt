@@ -1,4 +1,4 @@
-// What a whole line says, read once from its front to its end. Its octets then stand at its start, one word's behind the other's: a pair of
+// What a whole line says, read once from its front to its end. Its octets are then at its start, one word's behind the other's: a pair of
 // digits is longer than its octet, so that what is read is never overwritten before.
 use crate::is_end;
 use crate::is_last;
@@ -221,7 +221,7 @@ fn is_done(line: &[u8], from: usize) -> bool {
     is_last(line, skip(line, from))
 }
 
-// The length that stands at a place, behind a part's number.
+// The length at a place, behind a part's number.
 fn with_length(line: &[u8], at: usize, number: u64, held: bool) -> Part {
     if line.len() < at {
         return no_part(at);

@@ -2,7 +2,7 @@
 ghost use Prim.Native.Nat.{_≤_};
 ghost use lib.ListN.{length};
 
-// A line in the piece: from where to where it is, without the carriage return that some files have before its end, and where its end stands.
+// A line in the piece: from where to where it is, without the carriage return that some files have before its end, and where its end is.
 pub struct Span {
     pub from: usize,
     pub last: usize,
@@ -43,7 +43,7 @@ pub fn next_line(piece: &[u8], from: usize, count: usize) -> Span
     }
 }
 
-// Moves what stands from a place on to the start.
+// Moves what is from a place on to the start.
 pub fn slide(piece: &mut [u8], from: usize) {
     let mut i = from;
     let mut to = 0;
