@@ -15,7 +15,7 @@ use Rattle.types.specs.declared.Kind.{Kind}
 use Rattle.types.specs.declared.Kind.the-variants.{Command, Response}
 use Rattle.types.specs.Refusals.{Outcome, gives, refuse_when_otherwise_}
 use Rattle.packet.specs.Packets.{differ}
-use Rattle.octets.specs.Octets.{numberOf}
+use Rattle.octets.specs.Octets.{Octets, numberOf}
 use Rattle.octets.specs.Laws.{number-fits}
 use Rattle.header.specs.declared.Concatenation.{Concatenation}
 use Rattle.header.specs.declared.Seen.{Seen}
@@ -28,13 +28,13 @@ use Rattle.arrival.specs.Keys.{referenceFits, room}
 
 -- ---- the elements fill the header
 -- what elements take of a header: each its identifier, its length and its octets
-abbrev pub taken : List Item → ℕ
-taken [] = 0
-taken (e ∷ es) = 2 + length (e .octets) + taken es
+abbrev pub spaceOf : List Item → ℕ
+spaceOf [] = 0
+spaceOf (e ∷ es) = 2 + length (e .octets) + spaceOf es
 
 abbrev Fills : ℕ → Option (List Item) → ℕ → Type 0
 Fills k none m = Unit {0}
-Fills k (some es) m = k + taken es ≡ m
+Fills k (some es) m = k + spaceOf es ≡ m
 
 fills-more : (a n : ℕ) (r : List ℕ) (o : Option (List Item)) → Fills n o (length r) → Fills 0 (item a (take n r) ∷? o) (suc (suc (length r)))
 fills-more a n r none f = tt
@@ -52,7 +52,7 @@ fills zero (a ∷ []) = tt
 fills zero (a ∷ n ∷ r) = fills-more a n r (elementsAfter n r) (fills n r)
 fills (suc k) (a ∷ r) = fills-suc k (elementsAfter k r) (length r) (fills k r)
 
-pub elements-taken : (h : List ℕ) (es : List Item) → elements h ≡ some es → taken es ≡ length h
+pub elements-taken : (h : List ℕ) (es : List Item) → elements h ≡ some es → spaceOf es ≡ length h
 elements-taken h es e = let f : Fills 0 (some es) (length h) = rw e at (fills 0 h) in omega arith
 
 -- ---- by cases
@@ -91,7 +91,7 @@ costs c o a =
     rw (not00, not08, not70, not71) (λ w. omega arith)
 
 spent : (es : List Item) (c : Concatenation) → anyOf wrongLength es ≡ false
-    → cost (lastConcatenation c es .width) + 2 * bit (anyOf (has 0x70) es) + 2 * bit (anyOf (has 0x71) es) ≤ cost (c .width) + taken es
+    → cost (lastConcatenation c es .width) + 2 * bit (anyOf (has 0x70) es) + 2 * bit (anyOf (has 0x71) es) ≤ cost (c .width) + spaceOf es
 unfolding Costs
 spent [] c w = omega arith
 spent (e ∷ es) c w =
@@ -99,10 +99,6 @@ spent (e ∷ es) c w =
     omega (arith, spent es (cond (isConcatenation e) (concatenationIn e) c) there, costs c (e .octets) (e .id) here, bit-or (has 0x70 e) (anyOf (has 0x70) es), bit-or (has 0x71 e) (anyOf (has 0x71) es))
 
 -- ---- octets
--- every number of the list is one
-abbrev pub Octets : List ℕ → Type 0
-Octets l = (i : ℕ) → getD l i 0 < 256
-
 octets-take : (n : ℕ) (l : List ℕ) → Octets l → Octets (take n l)
 octets-take zero l b i = omega arith
 octets-take (suc n) [] b i = omega arith
@@ -112,13 +108,13 @@ octets-take (suc n) (x ∷ l) b (suc i) = octets-take n l (λ j. b (suc j)) i
 octets-header : (ud : List ℕ) → Octets ud → Octets (headerOctets ud)
 octets-header ud b = octets-take (udhl ud) (drop 1 ud) (λ i. rw getD-drop (b (1 + i)))
 
-abbrev Each : (List ℕ → Type 0) → List Item → Type 0
-Each q [] = Unit {0}
-Each q (e ∷ es) = q (e .octets) × Each q es
+abbrev EachItem : (List ℕ → Type 0) → List Item → Type 0
+EachItem q [] = Unit {0}
+EachItem q (e ∷ es) = q (e .octets) × EachItem q es
 
 abbrev OctetsIn : Option (List Item) → Type 0
 OctetsIn none = Unit {0}
-OctetsIn (some es) = Each Octets es
+OctetsIn (some es) = EachItem Octets es
 
 octets-more : (e : Item) (o : Option (List Item)) → Octets (e .octets) → OctetsIn o → OctetsIn (e ∷? o)
 octets-more e none b f = tt
@@ -142,7 +138,7 @@ module _ (q : List ℕ → Type 0) (T : Concatenation → Type 0) (narrow : (o :
       let P : ℕ → Type 0 = λ a. T (cond (isConcatenation (item a o)) (concatenationIn (item a o)) c) in
       by-number P a 0x00 (narrow o b) λ not00. by-number P a 0x08 (wide o b) λ not08. rw (not00, not08) t
 
-  last-holds : (es : List Item) (c : Concatenation) → Each q es → T c → T (lastConcatenation c es)
+  last-holds : (es : List Item) (c : Concatenation) → EachItem q es → T c → T (lastConcatenation c es)
   last-holds [] c b t = t
   last-holds (e ∷ es) c b t = last-holds es (cond (isConcatenation e) (concatenationIn e) c) (b .1) (one-holds c (e .octets) (e .id) (b .0) t)
 
@@ -150,7 +146,7 @@ module _ (q : List ℕ → Type 0) (T : Concatenation → Type 0) (narrow : (o :
 abbrev pub Says : Concatenation → Type 0
 Says c = eqb (c .total) 0 || referenceFits (c .width) (c .reference) ≡ true
 
-says : (es : List Item) → Each Octets es → Says (concatenationOf es)
+says : (es : List Item) → EachItem Octets es → Says (concatenationOf es)
 says es b =
     last-holds Octets Says (λ o b. rw (lt-ltb (getD o 0 0) 256 (b 0)) (or-true (eqb (getD o 1 0) 0)))
     (λ o b. rw (lt-ltb (numberOf (getD o 0 0) (getD o 1 0)) 65536 (number-fits (getD o 0 0) (getD o 1 0) (b 0) (b 1))) (or-true (eqb (getD o 2 0) 0)))
@@ -163,7 +159,7 @@ HasWidth c = eqb (c .total) 0 || not (eqb (c .width) 0) ≡ true
 has-width : (es : List Item) → HasWidth (concatenationOf es)
 has-width es = last-holds (λ _. Unit {0}) HasWidth (λ o _. or-true (eqb (getD o 1 0) 0)) (λ o _. or-true (eqb (getD o 2 0) 0)) es noConcatenation (each es) refl
   where
-    each : (es : List Item) → Each (λ _. Unit {0}) es
+    each : (es : List Item) → EachItem (λ _. Unit {0}) es
     each [] = tt
     each (e ∷ es) = (tt, each es)
 
@@ -182,22 +178,22 @@ not-refused n false o x e = (refl, e)
 gives-same : {A : Type 0} {x y : A} → gives x ≡ gives y → x ≡ y
 gives-same e = cc
 
-pub record Read (k : Kind) (sender : ℕ) (ud : List ℕ) (x : Brought) : Type 0 where
+pub record MessageRead (k : Kind) (sender : ℕ) (ud : List ℕ) (x : Brought) : Type 0 where
   pub es : List Item
   pub size : length ud ≤ mostUserData
   pub inside : udhl ud < length ud
   pub readable : elements (headerOctets ud) ≡ some es
   pub verdict : judged k sender (afterHeader ud) (summary es) ≡ gives x
 
-pub read : (k : Kind) (sender : ℕ) (ud : List ℕ) (x : Brought) → readMessage k sender ud ≡ gives x → Read k sender ud x
+pub message-read : (k : Kind) (sender : ℕ) (ud : List ℕ) (x : Brought) → readMessage k sender ud ≡ gives x → MessageRead k sender ud x
 unfolding readMessage
-read k sender ud x e =
+message-read k sender ud x e =
     let (size, e₁) = not-refused 2 (ltb mostUserData (length ud)) _ x e in
     let (inside, e₂) = not-refused 3 (leb (length ud) (udhl ud)) _ x e₁ in
     go (elements (headerOctets ud)) refl (ltb-false mostUserData (length ud) size) (leb-false (length ud) (udhl ud) inside) e₂
   where
     go : (o : Option (List Item)) → elements (headerOctets ud) ≡ o → length ud ≤ mostUserData → udhl ud < length ud
-        → whereRead (λ es. judged k sender (afterHeader ud) (summary es)) o ≡ gives x → Read k sender ud x
+        → whereRead (λ es. judged k sender (afterHeader ud) (summary es)) o ≡ gives x → MessageRead k sender ud x
     go none r l m e = let z : _≡_ {A = ℕ} 0 1 = cc in absurd (omega arith)
     go (some es) r l m e = record { es = es; size = l; inside = m; readable = r; verdict = e }
 
@@ -216,8 +212,8 @@ judged-given k sender start s x e =
     record { right = neither (s .wrong) (s .twice) right .0; placed = placed; verdict = e₂ }
 
 -- a single message or part 1 bears a packet identifier
-bears : (k : Kind) (s : Seen) → misplaced k s ≡ false → opens (s .concatenation) ≡ true → 1 ≤ bit (s .command) + bit (s .response)
-bears k s m o = go k (same (opens (s .concatenation)) (own k s) (neither (foreign k s) (differ (opens (s .concatenation)) (own k s)) m .1))
+opening-bears : (k : Kind) (s : Seen) → misplaced k s ≡ false → opens (s .concatenation) ≡ true → 1 ≤ bit (s .command) + bit (s .response)
+opening-bears k s m o = go k (same (opens (s .concatenation)) (own k s) (neither (foreign k s) (differ (opens (s .concatenation)) (own k s)) m .1))
   where
     same : (a b : Bool) → differ a b ≡ false → a ≡ b
     same true true e = refl
@@ -247,14 +243,14 @@ room-fills w number n e =
     by-width (λ w. P w number) w n e (by-number (P 8) number 1 refl λ later. rw later) (by-number (P 16) number 1 refl λ later. rw later)
 
 -- what is left for a message's own octets, behind a concatenation element and, where one is borne, a packet identifier
-module _ (k : Kind) (sender : ℕ) (ud : List ℕ) (x : Brought) (r : Read k sender ud x) where
+module _ (k : Kind) (sender : ℕ) (ud : List ℕ) (x : Brought) (r : MessageRead k sender ud x) where
   abbrev seen : Seen
   seen = summary (r .es)
 
   verdict : Judged k sender (afterHeader ud) seen x
   verdict = judged-given k sender (afterHeader ud) seen x (r .verdict)
 
-  header-taken : taken (r .es) ≡ udhl ud
+  header-taken : spaceOf (r .es) ≡ udhl ud
   header-taken = elements-taken (headerOctets ud) (r .es) (r .readable) ∙ length-take-le (udhl ud) (drop 1 ud) (simp length-drop (omega (arith, r .inside)))
 
   left : length (drop (afterHeader ud) ud) + cost (seen .concatenation .width) + 2 * bit (seen .command) + 2 * bit (seen .response) ≤ 139
@@ -280,7 +276,7 @@ module _ (k : Kind) (sender : ℕ) (ud : List ℕ) (x : Brought) (r : Read k sen
     pub room : length (drop (afterHeader ud) ud) + cost (c .width) + 2 * bit (eqb (c .number) 1) ≤ 139
 
   opening : opens (seen .concatenation) ≡ true → 1 ≤ bit (seen .command) + bit (seen .response)
-  opening = bears k seen (verdict .placed)
+  opening = opening-bears k seen (verdict .placed)
 
   first-bears : alone (seen .concatenation) ≡ false → bit (eqb (seen .concatenation .number) 1) ≤ bit (seen .command) + bit (seen .response)
   first-bears q =

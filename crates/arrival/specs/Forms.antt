@@ -12,7 +12,7 @@ use borrow.Author.Tests.{le-ltb, lt-leb, ne-eqb}
 use Rattle.types.specs.declared.Kind.{Kind}
 use Rattle.types.specs.declared.Kind.the-variants.{Command, Response}
 use Rattle.types.specs.Refusals.{gives}
-use Rattle.packet.specs.Packets.{differ}
+use Rattle.packet.specs.Laws.{differ-self}
 use Rattle.octets.specs.Octets.{numberOf}
 use Rattle.header.specs.declared.Concatenation.{Concatenation}
 use Rattle.header.specs.declared.Seen.{Seen}
@@ -77,10 +77,6 @@ by-kind P ct cf rt rf Command true = ct
 by-kind P ct cf rt rf Command false = cf
 by-kind P ct cf rt rf Response true = rt
 by-kind P ct cf rt rf Response false = rf
-
-differ-self : (b : Bool) → differ b b ≡ false
-differ-self true = refl
-differ-self false = refl
 
 -- the part c of a message from `sender`
 pub record InBounds (c : Concatenation) : Type 0 where

@@ -9,6 +9,7 @@ use native.Mathlib.Omega.{arith}
 use lib.ListN.{length, drop, length-drop}
 use lib.Dec.{eqb}
 use borrow.Author.Tests.{le-leb, eq-eqb, not-true}
+use Rattle.octets.specs.Octets.{Octets}
 use Rattle.types.specs.declared.Kind.{Kind}
 use Rattle.types.specs.Refusals.{gives}
 use Rattle.types.specs.declared.Key.{Key}
@@ -20,11 +21,11 @@ use Rattle.arrival.specs.Page.{pageOctets, pageHeader, pageContent, para
 use Rattle.arrival.specs.Keys.{ofPages, referenceFits, keyFormed, totalFits, room, lengthFits}
 use Rattle.header.specs.Header.{Item, elements}
 use Rattle.header.specs.Reading.{seenAfter, collected, walked, toldWalked}
-use Rattle.arrival.specs.Bounds.{taken, elements-taken, Octets, Says, HasWidth, bit, cost, by-width, Read, read, not-alone, some-total, room-fills, given-as, parameter-bounds, PageRead, page-given-as}
+use Rattle.arrival.specs.Bounds.{spaceOf, elements-taken, Says, HasWidth, bit, cost, by-width, MessageRead, message-read, not-alone, some-total, room-fills, given-as, parameter-bounds, PageRead, page-given-as}
 
 -- ---- the elements of a header
 -- They fill it exactly: `taken` counts two octets and its own for each.
-pub elements-fill : (h : List ℕ) (es : List Item) → elements h ≡ some es → taken es ≡ length h
+pub elements-fill : (h : List ℕ) (es : List Item) → elements h ≡ some es → spaceOf es ≡ length h
 elements-fill = elements-taken
 
 -- The walk refuses a header by the number, and on the elements, by which reading a message refuses it.
@@ -75,7 +76,7 @@ FromMessage k sender ud (part key total number start) =
 
 from-message : (k : Kind) (sender : ℕ) (ud : List ℕ) (x : Brought) → readMessage k sender ud ≡ gives x → FromMessage k sender ud x
 from-message k sender ud x given =
-    let r : Read k sender ud x = read k sender ud x given in
+    let r : MessageRead k sender ud x = message-read k sender ud x given in
     given-as k sender ud x r (FromMessage k sender ud) (λ room. (omega arith, room))
     λ c s. (omega arith, refl, width-told c (s .several) (s .width), λ b. admitted-message k sender c (drop (afterHeader ud) ud) (s .fits b) (s .several) (s .most) (s .room))
 

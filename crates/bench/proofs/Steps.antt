@@ -19,7 +19,7 @@ use Rattle.lines.specs.Lent.{lentOf, kindBy, senderOf}
 use Rattle.bench.specs.declared.Bench.{Bench}
 use Rattle.bench.specs.declared.Heard.{Heard}
 use Rattle.bench.specs.Lines as rule
-use Rattle.bench.specs.Lines.{held, changed, Leaves, SlotPut, Untouched}
+use Rattle.bench.specs.Lines.{held, rowChanges, LineLeaves, SlotPut, Untouched}
 
 pub start-told : (r : Record) → r ≡ freshRecord slotCount Command
     → record { «record» = r; lent = rule.allRight; numbered = false } ≡ rule.atStart
@@ -45,7 +45,7 @@ pub taken-told : (b b′ : Bench) (row : ℕ) (octets cells output x y : List �
     → b′ ≡ rule.withRecord b r
     → after a r x y ≡ rule.call row octets (state (b .«record») (take (n - 0) cells) (take (m - 0) output))
     → held b′ (x ++ drop (n - 0) cells) (y ++ drop (m - 0) output)
-    ≡ rule.taken (held b cells output) (rule.call row octets (rule.called (held b cells output)))
+    ≡ rule.heldTaken (held b cells output) (rule.call row octets (rule.called (held b cells output)))
 taken-told b b′ row octets cells output x y n m a r c o w is =
     let all-n : n - 0 ≡ n = omega arith in
     let all-m : m - 0 ≡ m = omega arith in
@@ -57,18 +57,18 @@ fresh-told row k r b c e f g = rw (g, f, e)
 
 -- ---- lending and numbering
 module _ (row n : ℕ) (b : Bench) where
-  pub note-lends : (c : Bench) → (ltb 7 row && ltb row 11) ≡ true → c ≡ rule.withLent b (set (b .lent) (row - 8) n) → c ≡ rule.noted row n b
+  pub note-lends : (c : Bench) → (ltb 7 row && ltb row 11) ≡ true → c ≡ rule.withLent b (set (b .lent) (row - 8) n) → c ≡ rule.lentNoted row n b
   note-lends c e f = rw e f
 
   module _ (e : (ltb 7 row && ltb row 11) ≡ false) where
-    pub note-right : row ≡ 11 → rule.withLent b rule.allRight ≡ rule.noted row n b
+    pub note-right : row ≡ 11 → rule.withLent b rule.allRight ≡ rule.lentNoted row n b
     note-right f = rw (e, eq-eqb row 11 f)
 
     module _ (f : row ≡ 11 → ⊥) where
-      pub note-number : row ≡ 12 → record { «record» = b .«record»; lent = b .lent; numbered = true } ≡ rule.noted row n b
+      pub note-number : row ≡ 12 → record { «record» = b .«record»; lent = b .lent; numbered = true } ≡ rule.lentNoted row n b
       note-number g = rw (e, ne-eqb row 11 f, eq-eqb row 12 g)
 
-      pub note-none : (row ≡ 12 → ⊥) → b ≡ rule.noted row n b
+      pub note-none : (row ≡ 12 → ⊥) → b ≡ rule.lentNoted row n b
       note-none g = rw (e, ne-eqb row 11 f, ne-eqb row 12 g)
 
 module _ (row : ℕ) (e : (ltb 7 row && ltb row 11) ≡ true) where
@@ -86,12 +86,12 @@ module _ (row : ℕ) (e : (ltb 7 row && ltb row 11) ≡ true) where
 -- a line that fills, or brings a fresh record, by its row
 by-row : (row : ℕ) → row ≤ 6 → (octets : List ℕ) (fresh b other : Bench) (cells output : List ℕ)
     → held (cond (ltb row 6) fresh b) (replicate (length cells) (cond (ltb row 6) 0 (getD octets 0 0))) (replicate (length output) (cond (ltb row 6) 0 (getD octets 0 0)))
-    ≡ cond (ltb row 6) (rule.filled (held b cells output) fresh 0) (cond (eqb row 6) (rule.filled (held b cells output) b (getD octets 0 0)) (held other cells output))
+    ≡ cond (ltb row 6) (rule.allFilled (held b cells output) fresh 0) (cond (eqb row 6) (rule.allFilled (held b cells output) b (getD octets 0 0)) (held other cells output))
 by-row row m octets fresh b other cells output = go (ltb row 6) refl
   where
     go : (low : Bool) → ltb row 6 ≡ low
         → held (cond (ltb row 6) fresh b) (replicate (length cells) (cond (ltb row 6) 0 (getD octets 0 0))) (replicate (length output) (cond (ltb row 6) 0 (getD octets 0 0)))
-        ≡ cond (ltb row 6) (rule.filled (held b cells output) fresh 0) (cond (eqb row 6) (rule.filled (held b cells output) b (getD octets 0 0)) (held other cells output))
+        ≡ cond (ltb row 6) (rule.allFilled (held b cells output) fresh 0) (cond (eqb row 6) (rule.allFilled (held b cells output) b (getD octets 0 0)) (held other cells output))
     go true e = rw e
     go false e = rw (e, eq-eqb row 6 (omega (arith, m, ltb-false row 6 e)))
 
@@ -109,27 +109,27 @@ module _ (row : ℕ) where
   refreshed-not b d l = rw (le-ltb row 6 l)
 
 module _ (row n : ℕ) (octets : List ℕ) (b c : Bench) (cells output cells′ output′ : List ℕ) where
-  pub changed-takes : row < 3 → held c cells′ output′ ≡ rule.taken (held b cells output) (rule.call row octets (rule.called (held b cells output)))
-      → held c cells′ output′ ≡ changed row n octets (held b cells output)
-  unfolding changed
+  pub changed-takes : row < 3 → held c cells′ output′ ≡ rule.heldTaken (held b cells output) (rule.call row octets (rule.called (held b cells output)))
+      → held c cells′ output′ ≡ rowChanges row n octets (held b cells output)
+  unfolding rowChanges
   changed-takes l h = rw (lt-ltb row 3 l) h
 
   module _ (l : 3 ≤ row) where
     module _ (x : ℕ) (d : Bench) (cells-are : cells′ ≡ replicate (length cells) x) (output-is : output′ ≡ replicate (length output) x) where
       pub changed-fills : row ≤ 6 → x ≡ cond (ltb row 6) 0 (getD octets 0 0)
           → d ≡ cond (ltb row 6) (rule.withRecord b (freshRecord slotCount (kindBy (eqb row 5)))) b → c ≡ d
-          → held c cells′ output′ ≡ changed row n octets (held b cells output)
-      unfolding changed
+          → held c cells′ output′ ≡ rowChanges row n octets (held b cells output)
+      unfolding rowChanges
       changed-fills m f g e =
-          rw (le-ltb row 3 l, e, g, cells-are, output-is, f) (by-row row m octets (rule.withRecord b (freshRecord slotCount (kindBy (eqb row 5)))) b (rule.noted row n b) cells output)
+          rw (le-ltb row 3 l, e, g, cells-are, output-is, f) (by-row row m octets (rule.withRecord b (freshRecord slotCount (kindBy (eqb row 5)))) b (rule.lentNoted row n b) cells output)
 
     module _ (m : 6 < row) where
-      pub changed-notes : (d : Bench) → d ≡ rule.noted row n b → c ≡ d → held c cells output ≡ changed row n octets (held b cells output)
-      unfolding changed
+      pub changed-notes : (d : Bench) → d ≡ rule.lentNoted row n b → c ≡ d → held c cells output ≡ rowChanges row n octets (held b cells output)
+      unfolding rowChanges
       changed-notes d e g = rw (le-ltb row 3 l, le-ltb row 6 (omega (arith, m)), ne-eqb row 6 (λ z. omega (arith, z, m)), ← e, g)
 
 pub done-told : (row n m : ℕ) (octets o : List ℕ) (b c d : Bench) (cells output cells′ output′ : List ℕ) → n ≡ m → octets ≡ o → d ≡ c
-    → held c cells′ output′ ≡ changed row n octets (held b cells output) → held d cells′ output′ ≡ changed row m o (held b cells output)
+    → held c cells′ output′ ≡ rowChanges row n octets (held b cells output) → held d cells′ output′ ≡ rowChanges row m o (held b cells output)
 done-told row n m octets o b c d cells output cells′ output′ e f g h = rw (g, ← e, ← f) h
 
 -- ---- putting a slot
@@ -148,14 +148,14 @@ slot-kept s b z e t =
 
 -- ---- all lines
 module _ (line : List ℕ) (b : Bench) (cells output : List ℕ) (z : Heard) (t : Bool) (is : t ≡ silent line) where
-  pub leaves-nothing : t ≡ true → z .bench ≡ b → z .understood ≡ true → Leaves line b cells output z cells output
+  pub leaves-nothing : t ≡ true → z .bench ≡ b → z .understood ≡ true → LineLeaves line b cells output z cells output
   leaves-nothing e f g = rule.nothing (sym is ∙ e) g (rw f)
 
   module _ (e : t ≡ false) (l : Line) (line′ : List ℕ) (r : Reads l line line′) where
     understood-is : l .understood ≡ lineRead line .understood
     understood-is = ap (λ (s : Gathered). s .understood) (r .is)
 
-    pub leaves-unclear : not (l .understood) ≡ true → z .bench ≡ b → z .understood ≡ false → Leaves line b cells output z cells output
+    pub leaves-unclear : not (l .understood) ≡ true → z .bench ≡ b → z .understood ≡ false → LineLeaves line b cells output z cells output
     leaves-unclear f g h =
         let no : lineRead line .understood ≡ false = sym understood-is ∙ not-true (l .understood) f in
         rule.other (sym is ∙ e) (rw no) (h ∙ sym no) (rw (no, g))
@@ -167,12 +167,12 @@ module _ (line : List ℕ) (b : Bench) (cells output : List ℕ) (z : Heard) (t 
       row-is : l .row ≡ lineRead line .row
       row-is = ap (λ (s : Gathered). s .row) (r .is)
 
-      pub leaves-slot : l .row ≡ 13 → SlotPut (gathered l line′) b z → Leaves line b cells output z cells output
+      pub leaves-slot : l .row ≡ 13 → SlotPut (gathered l line′) b z → LineLeaves line b cells output z cells output
       leaves-slot g p = rule.slot (sym is ∙ e) (rw (yes, ← row-is) (eq-eqb (l .row) 13 g)) (rw (r .is) at p) refl refl
 
       pub leaves-other : (cells′ output′ : List ℕ) → (l .row ≡ 13 → ⊥) → z .understood ≡ true
-          → held (z .bench) cells′ output′ ≡ changed (l .row) (getD (l .values) 0 0) (take (l .end) line′) (held b cells output)
-          → Leaves line b cells output z cells′ output′
+          → held (z .bench) cells′ output′ ≡ rowChanges (l .row) (getD (l .values) 0 0) (take (l .end) line′) (held b cells output)
+          → LineLeaves line b cells output z cells′ output′
       leaves-other cells′ output′ g h k =
           let values-is : l .values ≡ lineRead line .values = ap (λ (s : Gathered). s .values) (r .is) in
           let octets-is : take (l .end) line′ ≡ lineRead line .octets = ap (λ (s : Gathered). s .octets) (r .is) in

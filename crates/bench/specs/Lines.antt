@@ -54,36 +54,36 @@ abbrev pub call : ℕ → List ℕ → State → After
 call row octets s = cond (eqb row 1) (takeMessage slotCount s (senderOf octets) (drop 4 octets)) (takePage slotCount s octets)
 
 -- what a taking left of what was lent, and the rest as it was
-abbrev pub taken : Held → After → Held
-taken h a =
+abbrev pub heldTaken : Held → After → Held
+heldTaken h a =
     held (withRecord (h .bench) (a .state .rec)) (a .state .cells ++ drop (lentCells h) (h .cells)) (a .state .output ++ drop (lentOutput h) (h .output))
 
 -- every octet of cells and output
-abbrev pub filled : Held → Bench → ℕ → Held
-filled h b x = held b (replicate (length (h .cells)) x) (replicate (length (h .output)) x)
+abbrev pub allFilled : Held → Bench → ℕ → Held
+allFilled h b x = held b (replicate (length (h .cells)) x) (replicate (length (h .output)) x)
 
 -- rows 8 to 10 `lend cells N`, `lend output N`, `lend buffer N`, row 11 `lend right`, row 12 `number`
-abbrev pub noted : ℕ → ℕ → Bench → Bench
-noted row n b =
+abbrev pub lentNoted : ℕ → ℕ → Bench → Bench
+lentNoted row n b =
     cond (ltb 7 row && ltb row 11) (withLent b (set (b .lent) (row - 8) n))
     (cond (eqb row 11) (withLent b allRight)
     (cond (eqb row 12) (record { «record» = b .«record»; lent = b .lent; numbered = true }) b))
 
 -- and row 4 `fresh command`, row 5 `fresh response`, row 6 `fill HH`; the lines of other rows leave all as it is
-unfoldable pub changed : ℕ → ℕ → List ℕ → Held → Held
-changed row n octets h =
-    cond (ltb row 3) (taken h (call row octets (called h)))
-    (cond (ltb row 6) (filled h (withRecord (h .bench) (freshRecord slotCount (kindBy (eqb row 5)))) 0)
-    (cond (eqb row 6) (filled h (h .bench) (getD octets 0 0))
-    (held (noted row n (h .bench)) (h .cells) (h .output))))
+unfoldable pub rowChanges : ℕ → ℕ → List ℕ → Held → Held
+rowChanges row n octets h =
+    cond (ltb row 3) (heldTaken h (call row octets (called h)))
+    (cond (ltb row 6) (allFilled h (withRecord (h .bench) (freshRecord slotCount (kindBy (eqb row 5)))) 0)
+    (cond (eqb row 6) (allFilled h (h .bench) (getD octets 0 0))
+    (held (lentNoted row n (h .bench)) (h .cells) (h .output))))
 
 -- ---- all lines
 -- row 13 `slot ..`: its parts are read besides, and may be wrong
 abbrev pub putsSlot : Gathered → Bool
 putsSlot s = s .understood && eqb (s .row) 13
 
-abbrev pub after : Gathered → Held → Held
-after s h = cond (s .understood) (changed (s .row) (getD (s .values) 0 0) (s .octets) h) h
+abbrev pub heldAfter : Gathered → Held → Held
+heldAfter s h = cond (s .understood) (rowChanges (s .row) (getD (s .values) 0 0) (s .octets) h) h
 
 -- a slot is put in the place that the line says, and nothing else changes; what it holds is held to stored lines
 pub record SlotPut (s : Gathered) (b : Bench) (r : Heard) : Type 0 where
@@ -92,12 +92,12 @@ pub record SlotPut (s : Gathered) (b : Bench) (r : Heard) : Type 0 where
   pub kept : r .understood ≡ false → r .bench ≡ b
 
 -- what a line leaves that asks nothing, puts a slot, or is another
-pub data Leaves (line : List ℕ) (b : Bench) (cells output : List ℕ) (r : Heard) (cells′ output′ : List ℕ) : Type 0 where
-  nothing : silent line ≡ true → r .understood ≡ true → held (r .bench) cells′ output′ ≡ held b cells output → Leaves line b cells output r cells′ output′
+pub data LineLeaves (line : List ℕ) (b : Bench) (cells output : List ℕ) (r : Heard) (cells′ output′ : List ℕ) : Type 0 where
+  nothing : silent line ≡ true → r .understood ≡ true → held (r .bench) cells′ output′ ≡ held b cells output → LineLeaves line b cells output r cells′ output′
   slot : silent line ≡ false → putsSlot (lineRead line) ≡ true → SlotPut (lineRead line) b r → cells′ ≡ cells → output′ ≡ output
-      → Leaves line b cells output r cells′ output′
+      → LineLeaves line b cells output r cells′ output′
   other : silent line ≡ false → putsSlot (lineRead line) ≡ false → r .understood ≡ lineRead line .understood
-      → held (r .bench) cells′ output′ ≡ after (lineRead line) (held b cells output) → Leaves line b cells output r cells′ output′
+      → held (r .bench) cells′ output′ ≡ heldAfter (lineRead line) (held b cells output) → LineLeaves line b cells output r cells′ output′
 
 -- a line that is not understood leaves the buffer as it was
 pub record Untouched (understood : Bool) (before after : List ℕ) : Type 0 where

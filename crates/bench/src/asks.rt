@@ -21,6 +21,6 @@ pub(crate) fn say(
         return lines::say_packet(l.row, octets, text, at);
     }
     let lent = made.bench.lent;
-    let row = lines::told(l, octets, made.row, lent[2], buffer);
+    let row = lines::answer_row(l, octets, made.row, lent[2], buffer);
     answers::print(row, cells, output, buffer, text, at)
 }

@@ -11,7 +11,7 @@ ghost use lib.Dec.{eqb, ltb};
 ghost use Rattle.skelmarix.specs.Rules.{state, after, toldAnswer, freshRecord, slotCount};
 ghost use Rattle.lines.specs.Lent.{kindBy, lentOf};
 ghost use Rattle.bench.specs.Lines as rule;
-ghost use Rattle.bench.specs.Lines.{held, called, taken, changed, noted, withRecord};
+ghost use Rattle.bench.specs.Lines.{held, called, heldTaken, rowChanges, lentNoted, withRecord};
 
 // What is held afterwards, and the answer.
 pub(crate) struct Made {
@@ -53,7 +53,7 @@ fn lent_of(b: Bench, i: usize, right: usize, all: usize) -> usize
 }
 
 fn take(row: usize, octets: &[u8], b: Bench, cells: &mut [u8], output: &mut [u8]) -> Made
-    ensures { λ r. ⌜ held (r .bench) (now (cells .exit)) (now (output .exit)) ≡ taken (held b (now (cells .entry)) (now (output .entry))) (rule.call row (now (octets .entry)) (called (held b (now (cells .entry)) (now (output .entry))))) ⌝ }
+    ensures { λ r. ⌜ held (r .bench) (now (cells .exit)) (now (output .exit)) ≡ heldTaken (held b (now (cells .entry)) (now (output .entry))) (rule.call row (now (octets .entry)) (called (held b (now (cells .entry)) (now (output .entry))))) ⌝ }
 {
     let n = lent_of(b, 0, types::CELLS_OCTETS, cells.len());
     let m = lent_of(b, 1, types::PACKET_OCTETS, output.len());
@@ -87,7 +87,7 @@ fn lend(b: Bench, i: usize, n: usize) -> Bench
 }
 
 fn note(row: usize, n: usize, b: Bench) -> Bench
-    ensures { λ r. ⌜ r ≡ noted row n b ⌝ }
+    ensures { λ r. ⌜ r ≡ lentNoted row n b ⌝ }
 {
     if (table::LEND_CELLS - 1 < row) & (row < table::LEND_RIGHT) {
         return lend(b, row - table::LEND_CELLS, n);
@@ -167,7 +167,7 @@ pub(crate) fn change(
     cells: &mut [u8],
     output: &mut [u8],
 ) -> Made
-    ensures { λ r. ⌜ held (r .bench) (now (cells .exit)) (now (output .exit)) ≡ changed row n (now (octets .entry)) (held b (now (cells .entry)) (now (output .entry))) ⌝ }
+    ensures { λ r. ⌜ held (r .bench) (now (cells .exit)) (now (output .exit)) ≡ rowChanges row n (now (octets .entry)) (held b (now (cells .entry)) (now (output .entry))) ⌝ }
 {
     if row < 3 {
         return take(row, octets, b, cells, output);

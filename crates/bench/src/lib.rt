@@ -9,7 +9,7 @@ use words::table;
 ghost use mathlib.Core.Path.{_≡_};
 ghost use mathlib.Core.Bool.{true, false};
 ghost use lib.ListN.{getD, take};
-ghost use Rattle.bench.specs.Lines.{atStart, held, changed, Leaves, Untouched};
+ghost use Rattle.bench.specs.Lines.{atStart, held, rowChanges, LineLeaves, Untouched};
 
 // What is held beside the buffers: the record, how many octets of cells, output and buffer are lent (`RIGHT` means the right number), and
 // whether answers are numbered.
@@ -76,7 +76,7 @@ fn done(
     text: &mut [u8],
     at: usize,
 ) -> Heard
-    ensures { λ r. ⌜ (r .understood ≡ true) × (held (r .bench) (now (cells .exit)) (now (output .exit)) ≡ changed (l .row) (getD (l .values) 0 0) (take (l .end) (now (line .entry))) (held b (now (cells .entry)) (now (output .entry)))) ⌝ }
+    ensures { λ r. ⌜ (r .understood ≡ true) × (held (r .bench) (now (cells .exit)) (now (output .exit)) ≡ rowChanges (l .row) (getD (l .values) 0 0) (take (l .end) (now (line .entry))) (held b (now (cells .entry)) (now (output .entry)))) ⌝ }
 {
     let octets = skelmarix::first_octets(line, l.end);
     let values = l.values;
@@ -95,7 +95,7 @@ pub fn answer(
     text: &mut [u8],
     at: usize,
 ) -> Heard
-    ensures { λ r. ⌜ Leaves (now (line .entry)) b (now (cells .entry)) (now (output .entry)) r (now (cells .exit)) (now (output .exit)) ⌝ }
+    ensures { λ r. ⌜ LineLeaves (now (line .entry)) b (now (cells .entry)) (now (output .entry)) r (now (cells .exit)) (now (output .exit)) ⌝ }
     ensures { λ r. ⌜ Untouched (r .understood) (now (buffer .entry)) (now (buffer .exit)) ⌝ }
 {
     if words::line::is_silent(line) {

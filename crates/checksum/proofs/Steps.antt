@@ -17,7 +17,7 @@ use Rattle.packet.specs.declared.read.Judged.{Judged}
 use Rattle.packet.specs.declared.read.Judged.the-variants as judged
 use Rattle.types.specs.Refusals.{refused, gives, refusalNumber, Lent, lent, writes}
 use Rattle.packet.specs.Packets.{least, chl, readable, fixedOctets, withoutCheck, checksumOctets, checksummed}
-use Rattle.packet.specs.Laws.{Formed}
+use Rattle.packet.specs.Laws.{PacketLengths}
 use Rattle.packet.specs.Judging.{toldJudged, judged-formed, judged-header, judged-size, judged-readable, judged-refused}
 
 -- ---- the fixed octets
@@ -37,7 +37,7 @@ fixed-put k d o e l f = rw e (f ∙ put-fits d 0 (0x02 ∷ 0x71 ∷ 0x00 ∷ [])
 pub run-put : (d p o : List ℕ) (at : ℕ) → at + length p ≤ length d → o ≡ afterPut d at p → o ≡ placed d at p
 run-put d p o at l e = e ∙ put-fits d at p l
 
-module _ (k : Kind) (p d x : List ℕ) (h lead l n : ℕ) (f : Formed k p) (s : (h ≡ chl p) × (length p ≤ 2142) × (length d ≡ 2145))
+module _ (k : Kind) (p d x : List ℕ) (h lead l n : ℕ) (f : PacketLengths k p) (s : (h ≡ chl p) × (length p ≤ 2142) × (length d ≡ 2145))
     (a : ((lead ≡ length (fixedOctets k)) × (lead ≤ 3)) × (x ≡ placed d 0 (fixedOctets k))) (c : l ≡ least k) (e : n ≡ 3 + l) where
   front-length : length (take n p) ≡ 3 + least k
   front-length = length-take-le n p (omega arith) ∙ omega arith

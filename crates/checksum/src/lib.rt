@@ -14,7 +14,7 @@ ghost use lib.ListN.{length};
 ghost use Rattle.octets.specs.Octets.{placed};
 ghost use Rattle.types.specs.Refusals.{gives, lent, writes, toldWritten};
 ghost use Rattle.packet.specs.Packets.{chl, cipheredCommand, fixedOctets, withoutCheck, checksummed};
-ghost use Rattle.packet.specs.Laws.{Formed};
+ghost use Rattle.packet.specs.Laws.{PacketLengths};
 
 // Puts the octets that are before the packet of a kind, and says how many they are.
 fn fixed(kind: Kind, out: &mut [u8]) -> usize
@@ -43,7 +43,7 @@ fn put_run(run: &[u8], out: &mut [u8], at: usize) -> usize
 
 // All of them, of a packet that can be read and is plain, in two runs: the header before the check field, and the data behind it.
 fn collect(kind: Kind, header: usize, packet: &[u8], out: &mut [u8]) -> Written
-    requires { ⌜ Formed kind (now packet) ⌝ }
+    requires { ⌜ PacketLengths kind (now packet) ⌝ }
     requires { ⌜ (header ≡ chl (now packet)) × (length (now packet) ≤ 2142) × (length (now out) ≡ 2145) ⌝ }
     ensures { λ r. ⌜ lent (toldWritten r) (now (out .exit)) ≡ writes (gives (fixedOctets kind ++ withoutCheck kind (now (packet .entry)))) (now (out .entry)) ⌝ }
 {

@@ -7,6 +7,7 @@ use native.Mathlib.Omega.{arith}
 use lib.ListN.{length, drop, replicate, getD-replicate}
 use borrow.Author.Tests.{eq-eqb, eqb-true, not-false}
 use lib.Dec.{eqb}
+use Rattle.octets.specs.Octets.{Octets}
 use Rattle.octets.specs.Tests.{neither}
 use Rattle.types.specs.declared.Kind.{Kind}
 use Rattle.types.specs.Refusals as reading
@@ -23,7 +24,7 @@ use Rattle.series.specs.Taking.{State, After, state, refuse, unfit, taken, take
 use Rattle.series.specs.KeepLaws.{Sound, taken-sound, taken-kind}
 use Rattle.series.specs.Calls.{Input, message, page, octetsOf, read, takeInput}
 use Rattle.demands.specs.Always.{BringsOctets, AlwaysFormed, NoKeyTwice}
-use Rattle.demands.specs.Runs.{Call, Store, fresh, outcome, left, run, Octets, Proper, Each}
+use Rattle.demands.specs.Runs.{Call, Store, fresh, outcome, left, run, Proper, Each}
 
 abbrev pub isPage : Input → Bool
 isPage (message sender ud) = false

@@ -10,6 +10,7 @@ use native.Mathlib.Nat.{eq-or-lt-of-le}
 use native.Mathlib.Omega.{arith}
 use lib.ListN.{length, drop}
 use borrow.Author.Tests.{eq-eqb}
+use Rattle.octets.specs.Octets.{Octets}
 use Rattle.octets.specs.Tests.{clash, Same, same, other, same?}
 use Rattle.types.specs.declared.Kind.{Kind}
 use Rattle.types.specs.declared.Kind.the-variants.{Command}
@@ -30,9 +31,9 @@ use Rattle.series.specs.Calls.{Input, message, page, octetsOf, read}
 use Rattle.split.specs.Splitting as split
 use Rattle.split.specs.Laws.{some-part, page-ends, message-given, page-given}
 use Rattle.demands.specs.Lists.{elem, add, complete}
-use Rattle.demands.specs.Runs.{Call, Store, fresh, outcome, run, Octets, Proper, Each}
+use Rattle.demands.specs.Runs.{Call, Store, fresh, outcome, run, Proper, Each}
 use Rattle.demands.specs.Wake.{Cut, History, begin, historyAfter, follow, EachWith}
-use Rattle.demands.specs.SplitTaken.{listed, keyOf, Sent, Sending}
+use Rattle.demands.specs.SplitTaken.{listed, keyUnder, Sent, Sending}
 use Rattle.demands.specs.Delivery.{Brings, nothing-more, next, InParts, Delivered, MessagesDelivered, PagesDelivered, MessagesWritten, PagesWritten}
 use Rattle.demands.proofs.Lists.{elem-add, elem-still}
 use Rattle.demands.proofs.Calls.{isPage, taking, kept-fresh}
@@ -141,7 +142,7 @@ module _ (n : ℕ) (pos : 0 < n) (k : Kind) (K : Key) (P : List ℕ) (t : ℕ) (
 -- ---- messages and pages
 pub messages-delivered : (n : ℕ) → 0 < n → MessagesDelivered n
 messages-delivered n pos k sender width reference P octets formed fits most =
-    delivered n pos k (keyOf sender width reference) P (split.parts width (length P)) (split.partOctets width P)
+    delivered n pos k (keyUnder sender width reference) P (split.parts width (length P)) (split.partOctets width P)
     (λ number. message sender (split.userData k width reference P number)) (messages-split k sender width reference P fits most) (some-part width (length P)) formed
     (λ m low high. user-data-octets k width reference P m fits most high octets)
 

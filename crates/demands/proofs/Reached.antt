@@ -7,7 +7,7 @@ use native.Mathlib.Omega.{arith}
 use lib.ListN.{length, getD, length-replicate, List·getD-eq-default}
 use lib.Dec.{ltb}
 use borrow.Author.Tests.{ltb-true, ltb-false}
-use Rattle.octets.specs.Octets.{sameOctets, placed}
+use Rattle.octets.specs.Octets.{Octets, sameOctets, placed}
 use Rattle.octets.specs.Joined.{joined}
 use Rattle.types.specs.declared.Kind.the-variants.{Command}
 use Rattle.types.specs.Refusals as reading
@@ -26,7 +26,7 @@ use Rattle.series.specs.Cells.{cellsSize, cellPart, joinedOctets}
 use Rattle.series.specs.Taking.{step, takePart, takeMessage, packet}
 use Rattle.demands.specs.Examples.{M}
 use Rattle.series.specs.Calls.{Input}
-use Rattle.demands.specs.Runs.{Call, fresh, outcome, run, Octets, Proper}
+use Rattle.demands.specs.Runs.{Call, fresh, outcome, run, Proper}
 use Rattle.demands.specs.Wake.{messages, History, follow, Fair, begin}
 use Rattle.demands.proofs.Calls.{fresh-free}
 use Rattle.demands.proofs.Along.{All, each, Here, each-with}

@@ -26,7 +26,7 @@ use Rattle.split.specs.ReadBack.{ownFrom, read-single, single-octets, read-part
 use Rattle.demands.specs.Lists.{concat, complete}
 use Rattle.demands.specs.Runs.{Call}
 use Rattle.demands.specs.Wake.{Cut, messages, pages, History, begin, follow, EachWith, Fair, Served, Start, Comes}
-use Rattle.demands.specs.SplitTaken.{listed, Sent, Sending, Arrives, keyOf, MessagesArrive, PagesArrive}
+use Rattle.demands.specs.SplitTaken.{listed, Sent, Sending, Arrives, keyUnder, MessagesArrive, PagesArrive}
 use Rattle.demands.proofs.Lists.{concat-last}
 use Rattle.demands.proofs.Calls.{isPage}
 use Rattle.demands.proofs.Wake.{wake-window, packet-comes}
@@ -116,7 +116,7 @@ no-page : (width reference : ℕ) → referenceFits width reference ≡ true →
 no-page width reference e = ne-eqb width 0 (λ z. clash false (sym (ap (λ (w : ℕ). referenceFits w reference) z) ∙ e) refl)
 
 pub messages-split : (k : Kind) (sender width reference : ℕ) (P : List ℕ) → referenceFits width reference ≡ true → length P ≤ split.mostSplit width
-    → Splits k (keyOf sender width reference) P (split.parts width (length P)) (split.partOctets width P) (λ number. message sender (split.userData k width reference P number))
+    → Splits k (keyUnder sender width reference) P (split.parts width (length P)) (split.partOctets width P) (λ number. message sender (split.userData k width reference P number))
 messages-split k sender width reference P fits most = record {
   from = λ number. ownFrom k width reference P number;
   reads = λ several m low high. read-part k width reference P m sender fits most several low high;
@@ -130,7 +130,7 @@ messages-split k sender width reference P fits most = record {
 
 pub messages-arrive : (n : ℕ) → 0 < n → MessagesArrive n
 messages-arrive n pos k sender width reference P fits most two =
-    arrives n pos k (keyOf sender width reference) P (split.parts width (length P)) (split.partOctets width P)
+    arrives n pos k (keyUnder sender width reference) P (split.parts width (length P)) (split.partOctets width P)
     (λ number. message sender (split.userData k width reference P number)) (messages-split k sender width reference P fits most) two
 
 -- ---- pages

@@ -6,6 +6,7 @@ use mathlib.Core.List.{List, [], _∷_}
 use mathlib.Core.Option.{Option, none, some}
 use native.Mathlib.Omega.{arith}
 use lib.ListN.{length, getD, drop}
+use Rattle.octets.specs.Octets.{Octets}
 use Rattle.octets.specs.Tests.{clash}
 use Rattle.types.specs.declared.Kind.{Kind}
 use Rattle.types.specs.Refusals as reading
@@ -22,7 +23,7 @@ use Rattle.slots.specs.FrontLaws.{key-same}
 use Rattle.formed.specs.Laws.{Formed}
 use Rattle.types.specs.declared.Record.{Record}
 use Rattle.demands.specs.Lists.{elem, add, complete}
-use Rattle.demands.specs.Runs.{Call, outcome, left, Octets, Proper, Each}
+use Rattle.demands.specs.Runs.{Call, outcome, left, Proper, Each}
 use Rattle.demands.specs.Wake.{Cut, History, Start, begin, historyAfter, follow, EachWith, Fair, Served, again, waits, wakes, WakeWindow, Comes, comes, PacketComes}
 use Rattle.demands.proofs.Lists.{Alike, alike, unlike, alike?, elem-still, add-old}
 use Rattle.demands.proofs.Calls.{isPage, taking, Kept, Admits, kept-proper, kept-fresh}

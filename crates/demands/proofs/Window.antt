@@ -24,7 +24,7 @@ use Rattle.types.specs.declared.Slot.{Slot}
 use Rattle.slots.specs.BelowLaws.{all-at, all-same, count-at-most}
 use Rattle.slots.specs.Slots.{slotAt, opened, used, atRank, heldAt, lengthAt, withPart, withSlots, aged, closed, toFront, freed}
 use Rattle.formed.specs.Formed.{markAt}
-use Rattle.slots.specs.RankLaws.{taken, pos-taken, aged-taken, closed-taken, rank-bound, ranks-differ}
+use Rattle.slots.specs.RankLaws.{hasRank, pos-taken, aged-taken, closed-taken, rank-bound, ranks-differ}
 use Rattle.slots.specs.FrontLaws.{front-here, front-there, freed-here, freed-there}
 use Rattle.formed.specs.Laws.{Formed, UsedSlot, slot-tells}
 use Rattle.series.specs.PartLaws.{total-bounds}
@@ -112,7 +112,7 @@ module _ (n : ℕ) (K : Key) (parts : List (List ℕ)) where
         here : (j : ℕ) → j < n → Same j i → elemKey (cond (eqb j i) X (slotAt xs j .key)) (addKey X since) ≡ true
         here j l (same e p) = rw e (elem-key-self X since)
         here j l (other e p) =
-            let most : slotAt xs j .rank ≤ n = omega (arith, rank-bound n (λ j. slotAt xs j .rank) (w .ranks) j l, count-at-most n (taken (λ j. slotAt xs j .rank))) in
+            let most : slotAt xs j .rank ≤ n = omega (arith, rank-bound n (λ j. slotAt xs j .rank) (w .ranks) j l, count-at-most n (hasRank (λ j. slotAt xs j .rank))) in
             let not-last : slotAt xs j .rank ≡ slotAt xs i .rank → ⊥ = λ q. p (ranks-differ n (λ j. slotAt xs j .rank) (w .ranks) j i l (tr .bears .inside) (tr .bears .used) q) in
             rw e (elem-key-add X (slotAt xs j .key) since (tr .near j l (all j l) (below (slotAt xs j .rank) (slotAt xs i .rank) (omega arith) not-last)))
           where
@@ -313,4 +313,4 @@ module _ (n : ℕ) (k : Kind) (K : Key) (P : List ℕ) (parts : List (List ℕ))
     fine-first st (displaces j l a z all) = fine-new j a true (least-recent none-yet a (λ m h. (all m h, last-rank m h)))
       where
         last-rank : (m : ℕ) → m < n → slotAt own m .rank ≤ slotAt own j .rank
-        last-rank m h = omega (arith, rank-bound n (λ j. slotAt own j .rank) (w .ranks) m h, count-at-most n (taken (λ j. slotAt own j .rank)), z)
+        last-rank m h = omega (arith, rank-bound n (λ j. slotAt own j .rank) (w .ranks) m h, count-at-most n (hasRank (λ j. slotAt own j .rank)), z)

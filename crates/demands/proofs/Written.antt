@@ -8,6 +8,7 @@ use native.Mathlib.Omega.{arith}
 use lib.ListN.{length, take, drop, replicate, length-append}
 use lib.Dec.{eqb, ltb, leb}
 use borrow.Author.Tests.{ltb-true, leb-true}
+use Rattle.octets.specs.Octets.{Octets}
 use Rattle.octets.specs.Tests.{clash, both, by-test}
 use Rattle.types.specs.declared.Kind.{Kind}
 use Rattle.types.specs.declared.Kind.the-variants.{Command, Response}
@@ -16,7 +17,6 @@ use Rattle.arrival.specs.Page.{pageContent, identifierInRange}
 use Rattle.arrival.specs.Keys.{room, referenceFits}
 use Rattle.split.specs.Splitting.{mostSingle, parts, partFrom, partOctets, identifierElement, concatenationElement, elementsOf, userData, mostSplit, mostPages, pages, contentOf, parameter, page}
 use Rattle.split.specs.Laws.{most-parts, user-data-fits, most-pages}
-use Rattle.demands.specs.Runs.{Octets}
 
 -- ---- octets put together
 pub data Small : List ℕ → Type 0 where

@@ -3,11 +3,12 @@ use Prim.Native.Nat.{ℕ, _<_}
 use mathlib.Core.Path.{_≡_}
 use mathlib.Core.Bool.{true}
 use mathlib.Core.List.{List}
+use Rattle.octets.specs.Octets.{Octets}
 use Rattle.types.specs.declared.Kind.{Kind}
 use Rattle.slots.specs.Slots.{slotAt}
 use Rattle.formed.specs.Formed.{recordFormed}
 use Rattle.series.specs.Calls.{octetsOf}
-use Rattle.demands.specs.Runs.{Call, fresh, run, Octets, Each}
+use Rattle.demands.specs.Runs.{Call, fresh, run, Each}
 
 -- a call brings octets; what it lends may have any length
 abbrev pub BringsOctets : Call → Type 0

@@ -5,6 +5,7 @@ use mathlib.Core.Path.{_≡_}
 use mathlib.Core.Bool.{true}
 use mathlib.Core.List.{List, [], _∷_, _++_}
 use lib.ListN.{length, drop}
+use Rattle.octets.specs.Octets.{Octets}
 use Rattle.types.specs.declared.Kind.{Kind}
 use Rattle.types.specs.declared.Kind.the-variants.{Command}
 use Rattle.types.specs.Refusals.{gives}
@@ -19,9 +20,9 @@ use Rattle.series.specs.CaseLaws.{Lacks}
 use Rattle.series.specs.Calls.{Input, message, page}
 use Rattle.split.specs.Splitting as split
 use Rattle.demands.specs.Lists.{complete}
-use Rattle.demands.specs.Runs.{Call, fresh, outcome, run, Octets, Proper, Each}
+use Rattle.demands.specs.Runs.{Call, fresh, outcome, run, Proper, Each}
 use Rattle.demands.specs.Wake.{History, begin, EachWith, Served, Comes}
-use Rattle.demands.specs.SplitTaken.{listed, keyOf}
+use Rattle.demands.specs.SplitTaken.{listed, keyUnder}
 
 -- The calls bring, in this order, the inputs that were written under these numbers, and nothing else; each lends an output of 01's length.
 pub data Brings (t : ℕ) (written : ℕ → Input) : List ℕ → List Call → Type 0 where
@@ -51,7 +52,7 @@ abbrev pub MessagesDelivered : ℕ → Type 0
 MessagesDelivered n =
     (k : Kind) (sender width reference : ℕ) (P : List ℕ) → Octets P → wellFormed k P ≡ true → referenceFits width reference ≡ true
     → length P ≤ split.mostSplit width
-    → Delivered n k (keyOf sender width reference) P (split.parts width (length P)) (split.partOctets width P)
+    → Delivered n k (keyUnder sender width reference) P (split.parts width (length P)) (split.partOctets width P)
     (λ number. message sender (split.userData k width reference P number))
 
 -- These octets are what writing gives: each number up to the total is answered with the total and the length, and stands at the start of the

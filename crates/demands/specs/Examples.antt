@@ -33,15 +33,15 @@ examplePage parameter = 0x00 ∷ 0x00 ∷ 0x10 ∷ 0x80 ∷ 0x96 ∷ parameter �
 
 -- ---- outcomes
 -- what a call comes to, whatever the cells and the output held
-abbrev Outcome : Type 0
-Outcome = List ℕ → List ℕ → After
+abbrev Ends : Type 0
+Ends = List ℕ → List ℕ → After
 
 -- record, cells and output as they were
-abbrev refuses : ℕ → Outcome
+abbrev refuses : ℕ → Ends
 refuses number cells output = after (refusedBy number) (freshRecord slotCount Command) cells output
 
 -- M handed out: its length, M at the start of the output, and the rest of that buffer as it was
-abbrev handsOutM : Outcome
+abbrev handsOutM : Ends
 handsOutM cells output = after (packet 16) (freshRecord slotCount Command) cells (M ++ drop 16 output)
 
 -- a part in slot 0, the most recent series; the other slots are free
@@ -70,10 +70,10 @@ seriesM = record {
   held = marked 1;
 }
 
-abbrev keepsH : Outcome
+abbrev keepsH : Ends
 keepsH cells output = after (kept 0 false) (holds seriesH) (placed cells 134 []) output
 
-abbrev keepsM : Outcome
+abbrev keepsM : Ends
 keepsM cells output = after (kept 0 false) (holds seriesM) (placed cells 134 content) output
 
 -- ---- the examples, all messages from sender 9

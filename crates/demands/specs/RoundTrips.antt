@@ -6,7 +6,7 @@ use mathlib.Core.Bool.{Bool, true, false}
 use mathlib.Core.List.{List, _∷_, _++_}
 use lib.ListN.{length, drop, replicate}
 use Rattle.octets.specs.Joined.{joined}
-use Rattle.octets.specs.Octets.{pairOf}
+use Rattle.octets.specs.Octets.{Octets, pairOf}
 use Rattle.types.specs.declared.Kind.{Kind}
 use Rattle.types.specs.declared.Kind.the-variants.{Command, Response}
 use Rattle.types.specs.declared.Pair.{Pair}
@@ -32,7 +32,6 @@ use Rattle.arrival.specs.Page.{pageContent, pageHeader, pageKey, readPage, iden
 use Rattle.arrival.specs.Keys.{referenceFits}
 use Rattle.split.specs.Splitting.{parts, partOctets, userData, mostSplit, pages, contentOf, page, mostPages}
 use Rattle.split.specs.ReadBack.{ownFrom, says}
-use Rattle.demands.specs.Runs.{Octets}
 
 -- ---- packets
 -- what reading finds in a packet p that was built of the fields x

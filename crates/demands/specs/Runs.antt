@@ -1,8 +1,9 @@
 -- Sequences of calls: "from a fresh record, buffers of 01's lengths, record and cells passed back as left" (demand 3).
-use Prim.Native.Nat.{ℕ, _<_}
+use Prim.Native.Nat.{ℕ}
 use mathlib.Core.Path.{_≡_}
 use mathlib.Core.List.{List, [], _∷_, _++_}
-use lib.ListN.{length, getD}
+use lib.ListN.{length}
+use Rattle.octets.specs.Octets.{Octets}
 use Rattle.types.specs.declared.Kind.{Kind}
 use Rattle.packet.specs.Packets.{mostOctets}
 use Rattle.types.specs.declared.Record.{Record}
@@ -34,10 +35,6 @@ left a = record { rec = a .state .rec; cells = a .state .cells }
 abbrev pub run : ℕ → Store → List Call → Store
 run n st [] = st
 run n st (c ∷ cs) = run n (left (outcome n st c)) cs
-
--- every number that comes over the air is an octet
-abbrev pub Octets : List ℕ → Type 0
-Octets o = (i : ℕ) → getD o i 0 < 256
 
 -- a call lends an output of 01's length, and brings octets; so do all of a list
 pub record Proper (c : Call) : Type 0 where

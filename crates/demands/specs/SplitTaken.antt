@@ -49,14 +49,14 @@ Arrives n k K P t octets written =
     → Comes n k K P (listed octets t) (begin n k cells earlier) calls
 
 -- user data, for either kind and either width
-abbrev pub keyOf : ℕ → ℕ → ℕ → Key
-keyOf sender width reference = messageKey sender (record { width = width; reference = reference; total = 0; number = 0 })
+abbrev pub keyUnder : ℕ → ℕ → ℕ → Key
+keyUnder sender width reference = messageKey sender (record { width = width; reference = reference; total = 0; number = 0 })
 
 abbrev pub MessagesArrive : ℕ → Type 0
 MessagesArrive n =
     (k : Kind) (sender width reference : ℕ) (P : List ℕ) → referenceFits width reference ≡ true → length P ≤ split.mostSplit width
     → 2 ≤ split.parts width (length P)
-    → Arrives n k (keyOf sender width reference) P (split.parts width (length P)) (split.partOctets width P)
+    → Arrives n k (keyUnder sender width reference) P (split.parts width (length P)) (split.partOctets width P)
     (λ number. message sender (split.userData k width reference P number))
 
 -- pages, each with any DCS

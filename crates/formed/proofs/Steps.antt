@@ -18,7 +18,7 @@ use Rattle.types.specs.declared.Slot.{Slot}
 use Rattle.slots.specs.Below.{allBelow}
 use Rattle.slots.specs.BelowLaws.{fault-from, fault-more, fault-through, all-but-first, all-from, all-more, all-through, any-from, any-more, any-through, count-from, count-more, count-through}
 use Rattle.slots.specs.Slots.{slotAt, used, sameKey}
-use Rattle.formed.specs.Formed.{sixteen, markAt, sizeAt, zeroKey, zeroPart, allZero, partFormed, heldCount, usedFormed, slotFormed, clash, keysDiffer, usedCount, isRank, ranked, slotsFormed}
+use Rattle.formed.specs.Formed.{sixteen, markAt, sizeAt, zeroKey, zeroPart, allZero, partFormed, heldCount, usedFormed, slotFormed, keyTwice, keysDiffer, usedCount, isRank, ranked, slotsFormed}
 use Rattle.formed.specs.Pieces.{fewest, most, partWithin, slotsHold, keyDiffers}
 use Rattle.slots.specs.Found.{length-of-map}
 
@@ -174,10 +174,10 @@ module _ (k : Kind) (x : Slot) where
 
 -- ---- the record
 module _ (xs : List Slot) where
-  pub differ-more : (i j : ℕ) (ok same : Bool) → ok ≡ allBelow j (λ j. not (clash xs i j))
+  pub differ-more : (i j : ℕ) (ok same : Bool) → ok ≡ allBelow j (λ j. not (keyTwice xs i j))
       → same ≡ sameKey (slotAt xs i .key) (slotAt xs j .key)
-      → ok && not (used (slotAt xs i) && used (slotAt xs j) && same) ≡ allBelow (j + 1) (λ j. not (clash xs i j))
-  differ-more i j ok same e f = all-more (λ j. not (clash xs i j)) j ok _ e (rw f)
+      → ok && not (used (slotAt xs i) && used (slotAt xs j) && same) ≡ allBelow (j + 1) (λ j. not (keyTwice xs i j))
+  differ-more i j ok same e f = all-more (λ j. not (keyTwice xs i j)) j ok _ e (rw f)
 
   pub differ-told : (n i : ℕ) (ok : Bool) → ok ≡ allBelow i (keyDiffers xs) → i ≤ n → n ≤ i → ok ≡ keysDiffer n xs
   unfolding keysDiffer

@@ -53,11 +53,11 @@ unfoldable pub slotFormed : Kind → Slot → Bool
 slotFormed k x = sixteen x && cond (used x) (usedFormed k x) (allZero x)
 
 -- "keys differ"
-abbrev pub clash : List Slot → ℕ → ℕ → Bool
-clash xs i j = used (slotAt xs i) && used (slotAt xs j) && sameKey (slotAt xs i .key) (slotAt xs j .key)
+abbrev pub keyTwice : List Slot → ℕ → ℕ → Bool
+keyTwice xs i j = used (slotAt xs i) && used (slotAt xs j) && sameKey (slotAt xs i .key) (slotAt xs j .key)
 
 unfoldable pub keysDiffer : ℕ → List Slot → Bool
-keysDiffer n xs = allBelow n (λ i. allBelow i (λ j. not (clash xs i j)))
+keysDiffer n xs = allBelow n (λ i. allBelow i (λ j. not (keyTwice xs i j)))
 
 -- "the used slots are ranked 1, 2, .. by recency without gaps": with m of them used, each of 1 to m is a rank
 abbrev pub usedCount : ℕ → List Slot → ℕ

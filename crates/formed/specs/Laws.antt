@@ -87,8 +87,8 @@ formed-tells n k xs e =
     -- a later slot with the key of an earlier one
     apart : keysDiffer n xs ≡ true → (i j : ℕ) → i < n → j < i → 0 < slotAt xs i .rank → 0 < slotAt xs j .rank → slotAt xs i .key ≡ slotAt xs j .key → ⊥
     apart h i j l m u v q =
-        let a : not (rule.clash xs i j) ≡ true = all-at i (λ j. not (rule.clash xs i j)) (all-at n (λ i. allBelow i (λ j. not (rule.clash xs i j))) h i l) j m in
-        clash (rule.clash xs i j) (rw (used-pos (slotAt xs i) u, used-pos (slotAt xs j) v, key-same (slotAt xs i .key) (slotAt xs j .key) q)) (not-true (rule.clash xs i j) a)
+        let a : not (rule.keyTwice xs i j) ≡ true = all-at i (λ j. not (rule.keyTwice xs i j)) (all-at n (λ i. allBelow i (λ j. not (rule.keyTwice xs i j))) h i l) j m in
+        clash (rule.keyTwice xs i j) (rw (used-pos (slotAt xs i) u, used-pos (slotAt xs j) v, key-same (slotAt xs i .key) (slotAt xs j .key) q)) (not-true (rule.keyTwice xs i j) a)
 
     go : keysDiffer n xs ≡ true → (i j : ℕ) → i < n → j < n → 0 < slotAt xs i .rank → 0 < slotAt xs j .rank → slotAt xs i .key ≡ slotAt xs j .key
         → (a : Bool) → ltb j i ≡ a → (b : Bool) → ltb i j ≡ b → i ≡ j
@@ -99,9 +99,9 @@ formed-tells n k xs e =
 pub formed-told : (n : ℕ) (k : Kind) (xs : List Slot) → Formed n k xs → slotsFormed n k xs ≡ true
 unfolding slotsFormed keysDiffer ranked
 formed-told n k xs w =
-    rw (eq-eqb (length xs) n (w .size), all-hold n (λ i. slotFormed k (slotAt xs i)) (w .slots), all-hold n (λ i. allBelow i (λ j. not (rule.clash xs i j))) (λ i l. all-hold i (λ j. not (rule.clash xs i j)) (λ j m. differ i j l m (rule.clash xs i j) refl))) (w .ranks)
+    rw (eq-eqb (length xs) n (w .size), all-hold n (λ i. slotFormed k (slotAt xs i)) (w .slots), all-hold n (λ i. allBelow i (λ j. not (rule.keyTwice xs i j))) (λ i l. all-hold i (λ j. not (rule.keyTwice xs i j)) (λ j m. differ i j l m (rule.keyTwice xs i j) refl))) (w .ranks)
   where
-    differ : (i j : ℕ) → i < n → j < i → (b : Bool) → rule.clash xs i j ≡ b → not b ≡ true
+    differ : (i j : ℕ) → i < n → j < i → (b : Bool) → rule.keyTwice xs i j ≡ b → not b ≡ true
     differ i j l m false e = refl
     differ i j l m true e =
         let (u, q) = both (used (slotAt xs i) && used (slotAt xs j)) (sameKey (slotAt xs i .key) (slotAt xs j .key)) e in

@@ -10,7 +10,7 @@ use Rattle.arrival.specs.Keys.{ofPages, room}
 use Rattle.types.specs.declared.Slot.{Slot}
 use Rattle.slots.specs.Below.{allBelow}
 use Rattle.slots.specs.Slots.{slotAt}
-use Rattle.formed.specs.Formed.{markAt, sizeAt, slotFormed, clash}
+use Rattle.formed.specs.Formed.{markAt, sizeAt, slotFormed, keyTwice}
 
 -- of `lengthFits`: the fewest octets of a part, and the most of part `number`
 abbrev pub fewest : Key → ℕ
@@ -30,4 +30,4 @@ slotsHold n k xs = allBelow n (λ i. slotFormed k (slotAt xs i))
 
 -- of `keysDiffer`: slot i and those before it
 abbrev pub keyDiffers : List Slot → ℕ → Bool
-keyDiffers xs i = allBelow i (λ j. not (clash xs i j))
+keyDiffers xs i = allBelow i (λ j. not (keyTwice xs i j))

@@ -94,7 +94,7 @@ fn make(l: Line, fields: &[u8], size: usize, buffer: &mut [u8]) -> Row {
 }
 
 // What a line answers, the record's and the packets' apart; `row` is what was made of it already. A line that fills fills the buffer too.
-pub fn told(l: Line, fields: &[u8], row: Row, size: usize, buffer: &mut [u8]) -> Row {
+pub fn answer_row(l: Line, fields: &[u8], row: Row, size: usize, buffer: &mut [u8]) -> Row {
     if l.row == table::FILL {
         fill(buffer, octet(fields, 0));
         return row;

@@ -1,7 +1,7 @@
 -- What the proofs of `octets` cite: one law for each return, over plain variables.
 use Prim.Native.Nat.{ℕ, _+_, _-_, _≤_, _<_}
 use mathlib.Core.Path.{_≡_, refl, sym, ap, _∙_}
-use mathlib.Core.Bool.{Bool, true, false, _&&_}
+use mathlib.Core.Bool.{Bool, true, false, _&&_, and-true}
 use mathlib.Core.List.{List, _++_, append-nil}
 use native.Mathlib.Omega.{arith}
 use native.Mathlib.Nat.{add-sub-cancel-left}
@@ -65,10 +65,6 @@ regroup : (p q r : Bool) → (p && q) && r ≡ p && (q && r)
 regroup true q r = refl
 regroup false q r = refl
 
-alone : (p : Bool) → p && true ≡ p
-alone true = refl
-alone false = refl
-
 module _ (a b : List ℕ) where
   pub none-compared : true && sameOctets (drop 0 a) (drop 0 b) ≡ sameOctets a b
   none-compared = refl
@@ -83,7 +79,7 @@ module _ (a b : List ℕ) where
     unfolding sameOctets
     all-compared l =
         let m : length b ≤ i = omega arith in
-        sym (alone ok) ∙ rw (drop-of-length-le a l, drop-of-length-le b m) at found
+        sym (and-true ok) ∙ rw (drop-of-length-le a l, drop-of-length-le b m) at found
 
 pub ruleset steps = (
   needs,

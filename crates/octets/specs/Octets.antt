@@ -1,11 +1,15 @@
 -- What the calls of `octets` promise: numbers on the air are big-endian (01, "Ground covered"), and octets are put at a place of a lent buffer
 -- whose rest stays as it was.
-use Prim.Native.Nat.{ℕ, _+_, _*_, _/_, _%_}
+use Prim.Native.Nat.{ℕ, _+_, _*_, _/_, _%_, _<_}
 use mathlib.Core.Bool.{Bool, true, false, cond, _&&_}
 use mathlib.Core.List.{List, [], _∷_, _++_}
-use lib.ListN.{length, take, drop}
+use lib.ListN.{length, getD, take, drop}
 use lib.Dec.{eqb, leb}
 use Rattle.types.specs.declared.Pair.{Pair}
+
+-- every number of a list is an octet, as those that come over the air are
+abbrev pub Octets : List ℕ → Type 0
+Octets o = (i : ℕ) → getD o i 0 < 256
 
 -- the number that two octets are, the high one first
 abbrev pub numberOf : ℕ → ℕ → ℕ

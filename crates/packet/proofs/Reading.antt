@@ -27,7 +27,7 @@ use Rattle.packet.specs.declared.read.Judged.the-variants as judged
 use Rattle.types.specs.Refusals.{Outcome, refused, gives, refusalNumber}
 use Rattle.packet.specs.Packets.{before, least, chl, formedBy, wellFormed, cipheredCommand, fieldsOf, Parsed, plainParsed, cipheredParsed, measured, readable, parsing}
 use Rattle.packet.specs.Told.{tarOctets, clearOctets, counterOctets, commandFields, responseFields}
-use Rattle.packet.specs.Laws.{Formed, formed-facts, before-least, least-most}
+use Rattle.packet.specs.Laws.{PacketLengths, formed-facts, before-least, least-most}
 use Rattle.packet.specs.Judging.{toldJudged, judged-formed, judged-header, judged-size, judged-readable, judged-refused}
 
 -- ---- well formed
@@ -42,7 +42,7 @@ pub short-unformed : (k : Kind) (p : List ℕ) → length p < 3 → false ≡ we
 short-unformed k p l = go (wellFormed k p) refl
   where
     go : (b : Bool) → wellFormed k p ≡ b → false ≡ b
-    go true e = let h : Formed k p = formed-facts k p e in absurd (omega arith)
+    go true e = let h : PacketLengths k p = formed-facts k p e in absurd (omega arith)
     go false e = refl
 
 -- ---- what every reading asks first
@@ -55,7 +55,7 @@ module _ (k : Kind) (p : List ℕ) (w : Bool) (e : w ≡ wellFormed k p) where
     long-refused o l = rw (← e, not-false w t, lt-ltb 2142 (length p) l)
 
     pub formed-header : 3 ≤ length p
-    formed-header = let f : Formed k p = formed-facts k p (sym e ∙ not-false w t) in omega arith
+    formed-header = let f : PacketLengths k p = formed-facts k p (sym e ∙ not-false w t) in omega arith
 
     pub readable-header : (r : ℕ) → r ≡ chl p → length p ≤ 2142 → gives r ≡ readable k p (gives (chl p))
     readable-header r f l = rw (← e, not-false w t, le-ltb 2142 (length p) l, f)
@@ -94,19 +94,19 @@ unfolding from
 clear-at p t l e = rw (e, ← run-next p 3 4 3, ← from-take p 3 4 (omega arith))
 
 -- the counters, and one or two octets behind them
-pub command-counters : (p : List ℕ) (n : Cntr) → Formed Command p → counterOctets n [] ≡ take 5 (drop 10 p)
+pub command-counters : (p : List ℕ) (n : Cntr) → PacketLengths Command p → counterOctets n [] ≡ take 5 (drop 10 p)
     → counterOctets n (getD p 15 0 ∷ []) ≡ take 6 (drop 10 p)
 unfolding from
 command-counters p n l e = ap (λ (x : List ℕ). x ++ (getD p 15 0 ∷ [])) e ∙ rw (← run-next p 10 5 1, ← from-take p 15 1 (omega arith))
 
-pub response-counters : (p : List ℕ) (n : Cntr) → Formed Response p → counterOctets n [] ≡ take 5 (drop 6 p)
+pub response-counters : (p : List ℕ) (n : Cntr) → PacketLengths Response p → counterOctets n [] ≡ take 5 (drop 6 p)
     → counterOctets n (getD p 11 0 ∷ getD p 12 0 ∷ []) ≡ take 7 (drop 6 p)
 unfolding from
 response-counters p n l e =
     ap (λ (x : List ℕ). x ++ (getD p 11 0 ∷ getD p 12 0 ∷ [])) e ∙ rw (← run-next p 6 5 2, ← from-take p 11 2 (omega arith))
 
 -- the lengths of a plain body's parts, and of the opaque octets
-module _ (k : Kind) (p : List ℕ) (f : Formed k p) where
+module _ (k : Kind) (p : List ℕ) (f : PacketLengths k p) where
   plain-measured : (x y : List ℕ) (c d : ℕ) → x ++ y ≡ take (least k) (drop 3 p) → c ≡ chl p - least k → d ≡ length p - (chl p + 3)
       → plainParsed (x ++ y) c d ≡ measured (fieldsOf k false p)
   plain-measured x y c d e g h =
@@ -118,7 +118,7 @@ module _ (k : Kind) (p : List ℕ) (f : Formed k p) where
   opaque-measured x h o e g i =
       let n : length (drop (before k) (drop 3 p)) ≡ o = simp length-drop (omega arith) in rw (e, g, n)
 
-module _ (p : List ℕ) (f : Formed Command p) (x : Clear) (e : clearOctets x ≡ take 7 (drop 3 p)) (c : Bool) (s : c ≡ cipheredCommand p) where
+module _ (p : List ℕ) (f : PacketLengths Command p) (x : Clear) (e : clearOctets x ≡ take 7 (drop 3 p)) (c : Bool) (s : c ≡ cipheredCommand p) where
   pub command-opaque : (b : Opaque) → c ≡ true → (b .«header_length» ≡ chl p) × (b .«opaque_length» ≡ length p - 10)
       → commandFields x (command.Ciphered b) ≡ measured (fieldsOf Command (cipheredCommand p) p)
   command-opaque b t h = rw (← s, t) (opaque-measured Command p f (clearOctets x) (b .«header_length») (b .«opaque_length») e (h .0) (h .1))
@@ -131,7 +131,7 @@ module _ (p : List ℕ) (f : Formed Command p) (x : Clear) (e : clearOctets x �
       (plain-measured Command p f (clearOctets x) (counterOctets (b .cntr) (b .pcntr ∷ [])) (b .«check_length») (b .«data_length»)
       (runs p 3 7 6 (clearOctets x) (counterOctets (b .cntr) (b .pcntr ∷ [])) e (i .0)) (rw (← g) (i .1 .0)) (rw (← g) (i .1 .1)))
 
-module _ (p : List ℕ) (f : Formed Response p) (x : Tar) (e : tarOctets x ≡ take 3 (drop 3 p)) (c : Bool) where
+module _ (p : List ℕ) (f : PacketLengths Response p) (x : Tar) (e : tarOctets x ≡ take 3 (drop 3 p)) (c : Bool) where
   pub response-opaque : (b : Opaque) → c ≡ true → (b .«header_length» ≡ chl p) × (b .«opaque_length» ≡ length p - 6)
       → responseFields x (response.Ciphered b) ≡ measured (fieldsOf Response c p)
   response-opaque b t h = rw t (opaque-measured Response p f (tarOctets x) (b .«header_length») (b .«opaque_length») e (h .0) (h .1))

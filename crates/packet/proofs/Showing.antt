@@ -15,7 +15,7 @@ use Rattle.packet.specs.declared.read.Judged.{Judged}
 use Rattle.packet.specs.declared.read.Judged.the-variants as judged
 use Rattle.types.specs.Refusals.{gives, refuse_when_otherwise_}
 use Rattle.packet.specs.Packets.{before, least, chl, wellFormed, readable, shown, shownData, shownCheck, shownOpaque}
-use Rattle.packet.specs.Laws.{Formed, before-least}
+use Rattle.packet.specs.Laws.{PacketLengths, before-least}
 use Rattle.packet.specs.Judging.{toldJudged, judged-formed, judged-header, judged-readable, judged-refused}
 
 -- nothing is shown of nothing, whether the packet can be read or not
@@ -55,7 +55,7 @@ module _ (k : Kind) (c : Bool) (p : List ℕ) where
       opaque-refused = rw (← judged-refused k p j e r t)
 
     module _ (h : ℕ) (t : j ≡ judged.Readable h) where
-      inside : Formed k p
+      inside : PacketLengths k p
       inside = judged-formed k p j e h t
 
       is : h ≡ chl p
@@ -65,7 +65,7 @@ module _ (k : Kind) (c : Bool) (p : List ℕ) where
       the-part x o f = f ∙ ap shown (judged-readable k p j e h t (gives o))
 
       pub header-inside : h + 3 ≤ length p
-      header-inside = let w : Formed k p = inside in omega (arith, is)
+      header-inside = let w : PacketLengths k p = inside in omega (arith, is)
 
       pub data-part : (x : List ℕ) → c ≡ false → x ≡ drop h (drop 3 p) → x ≡ shownData k c p
       unfolding shownData
@@ -73,7 +73,7 @@ module _ (k : Kind) (c : Bool) (p : List ℕ) where
 
       module _ (l : ℕ) (f : l ≡ least k) where
         pub least-header : l ≤ h
-        least-header = let w : Formed k p = inside in omega (arith, is)
+        least-header = let w : PacketLengths k p = inside in omega (arith, is)
 
         pub check-part : (x : List ℕ) → c ≡ false → x ≡ take (h - l) (drop l (drop 3 p)) → x ≡ shownCheck k c p
         unfolding shownCheck
@@ -81,7 +81,7 @@ module _ (k : Kind) (c : Bool) (p : List ℕ) where
 
       module _ (b : ℕ) (f : b ≡ before k) where
         pub before-inside : b + 3 ≤ length p
-        before-inside = let w : Formed k p = inside in omega (arith, is, before-least k)
+        before-inside = let w : PacketLengths k p = inside in omega (arith, is, before-least k)
 
         pub opaque-part : (x : List ℕ) → not c ≡ false → x ≡ drop b (drop 3 p) → x ≡ shownOpaque k c p
         unfolding shownOpaque

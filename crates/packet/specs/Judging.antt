@@ -13,7 +13,7 @@ use Rattle.packet.specs.declared.read.Judged.{Judged}
 use Rattle.packet.specs.declared.read.Judged.the-variants as judged
 use Rattle.types.specs.Refusals.{Outcome, refused, gives, refuse_when_otherwise_, refusalNumber}
 use Rattle.packet.specs.Packets.{chl, wellFormed, readable}
-use Rattle.packet.specs.Laws.{Formed, formed-facts}
+use Rattle.packet.specs.Laws.{PacketLengths, formed-facts}
 
 -- what the answer to "can this packet be read" says: the header length, or the refusal
 abbrev pub toldJudged : Judged → Outcome ℕ
@@ -48,7 +48,7 @@ module _ (k : Kind) (p : List ℕ) (j : Judged) (e : toldJudged j ≡ readable k
     facts : (wellFormed k p ≡ true) × (length p ≤ 2142) × (h ≡ chl p)
     facts = readable-gives k p (chl p) h (sym (ap toldJudged t) ∙ e)
 
-    pub judged-formed : Formed k p
+    pub judged-formed : PacketLengths k p
     judged-formed = formed-facts k p (facts .0)
 
     pub judged-header : h ≡ chl p

@@ -33,12 +33,12 @@ least-most Response = omega arith
 
 -- ---- well formed
 -- what a well-formed packet's lengths are: CPL counts all but itself, the header has room for its fixed fields, and lies within the packet
-pub record Formed (k : Kind) (p : List ℕ) : Type 0 where
+pub record PacketLengths (k : Kind) (p : List ℕ) : Type 0 where
   pub whole : cpl p + 2 ≡ length p
   pub room : least k ≤ chl p
   pub inside : chl p + 3 ≤ length p
 
-pub formed-facts : (k : Kind) (p : List ℕ) → wellFormed k p ≡ true → Formed k p
+pub formed-facts : (k : Kind) (p : List ℕ) → wellFormed k p ≡ true → PacketLengths k p
 formed-facts k p e =
     let (f, h) = both (eqb (cpl p + 2) (length p) && leb (least k) (chl p)) (leb (chl p + 1) (cpl p)) e in
     let (w, r) = both (eqb (cpl p + 2) (length p)) (leb (least k) (chl p)) f in
@@ -160,7 +160,7 @@ built-checksum k f c d p r e =
     ∙ rw (b .is, without-check (pairOf (1 + length (f ++ (c ++ d))) .0) (pairOf (1 + length (f ++ (c ++ d))) .1) (least k + length c) (least k) f c d r, n)
 
 -- ---- reading, then building
-differ-self : (a : Bool) → differ a a ≡ false
+pub differ-self : (a : Bool) → differ a a ≡ false
 differ-self true = refl
 differ-self false = refl
 
@@ -191,7 +191,7 @@ three-more (a ∷ []) l = absurd (omega arith)
 three-more (a ∷ b ∷ []) l = absurd (omega arith)
 three-more (a ∷ b ∷ c ∷ p) l = refl
 
-packet-again : (k : Kind) (p : List ℕ) → Formed k p → getD p 1 0 < 256 → packetFrom (chl p) (drop 3 p) ≡ p
+packet-again : (k : Kind) (p : List ℕ) → PacketLengths k p → getD p 1 0 < 256 → packetFrom (chl p) (drop 3 p) ≡ p
 packet-again k p f l =
     let n : 1 + length (drop 3 p) ≡ cpl p = rw length-drop (omega arith) in
     let u : cpl p / 256 ≡ getD p 0 0 = omega arith in

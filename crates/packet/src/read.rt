@@ -23,7 +23,7 @@ ghost use lib.ListN.{length, take, drop};
 ghost use Rattle.types.specs.Refusals.{gives};
 ghost use Rattle.packet.specs.Packets.{before, least, chl, formedBy, wellFormed, cipheredCommand, fieldsOf, measured, readable, parsing};
 ghost use Rattle.packet.specs.Told.{tarOctets, clearOctets, counterOctets, commandFields, responseFields, toldCommand, toldResponse};
-ghost use Rattle.packet.specs.Laws.{Formed};
+ghost use Rattle.packet.specs.Laws.{PacketLengths};
 ghost use Rattle.packet.specs.Judging.{toldJudged};
 
 // ---- well formed
@@ -140,7 +140,7 @@ fn data_length(packet: &[u8], header: usize) -> usize
 
 // A ciphered body.
 fn opaque_body(kind: Kind, packet: &[u8]) -> Opaque
-    requires { ⌜ Formed kind (now packet) ⌝ }
+    requires { ⌜ PacketLengths kind (now packet) ⌝ }
     ensures { λ r. ⌜ r .«header_length» ≡ chl (now (packet .entry)) ⌝ }
     ensures { λ r. ⌜ r .«opaque_length» ≡ length (now (packet .entry)) - (before kind + 3) ⌝ }
 {
@@ -153,7 +153,7 @@ fn opaque_body(kind: Kind, packet: &[u8]) -> Opaque
 
 // A plain command from its counter on.
 fn plain_command(packet: &[u8], header: usize) -> PlainCommand
-    requires { ⌜ Formed Kind.Command (now packet) ⌝ }
+    requires { ⌜ PacketLengths Kind.Command (now packet) ⌝ }
     requires { ⌜ header ≡ chl (now packet) ⌝ }
     ensures { λ r. ⌜ counterOctets (r .cntr) (r .pcntr ∷ []) ≡ take 6 (drop 10 (now (packet .entry))) ⌝ }
     ensures { λ r. ⌜ (r .«check_length» ≡ header - 13) × (r .«data_length» ≡ length (now (packet .entry)) - (header + 3)) ⌝ }
@@ -169,7 +169,7 @@ fn plain_command(packet: &[u8], header: usize) -> PlainCommand
 
 // A plain response from its counter on.
 fn plain_response(packet: &[u8], header: usize) -> PlainResponse
-    requires { ⌜ Formed Kind.Response (now packet) ⌝ }
+    requires { ⌜ PacketLengths Kind.Response (now packet) ⌝ }
     requires { ⌜ header ≡ chl (now packet) ⌝ }
     ensures { λ r. ⌜ counterOctets (r .cntr) (r .pcntr ∷ r .status ∷ []) ≡ take 7 (drop 6 (now (packet .entry))) ⌝ }
     ensures { λ r. ⌜ (r .«check_length» ≡ header - 10) × (r .«data_length» ≡ length (now (packet .entry)) - (header + 3)) ⌝ }
@@ -187,7 +187,7 @@ fn plain_response(packet: &[u8], header: usize) -> PlainResponse
 // ---- parsing
 // The fields of a well-formed command.
 fn command(packet: &[u8], header: usize) -> Command
-    requires { ⌜ Formed Kind.Command (now packet) ⌝ }
+    requires { ⌜ PacketLengths Kind.Command (now packet) ⌝ }
     requires { ⌜ header ≡ chl (now packet) ⌝ }
     ensures { λ r. ⌜ commandFields (r .clear) (r .body) ≡ measured (fieldsOf Kind.Command (cipheredCommand (now (packet .entry))) (now (packet .entry))) ⌝ }
 {
@@ -209,7 +209,7 @@ fn command(packet: &[u8], header: usize) -> Command
 
 // The fields of a well-formed response, whose body is ciphered if the caller says so.
 fn response(packet: &[u8], ciphered: bool, header: usize) -> Response
-    requires { ⌜ Formed Kind.Response (now packet) ⌝ }
+    requires { ⌜ PacketLengths Kind.Response (now packet) ⌝ }
     requires { ⌜ header ≡ chl (now packet) ⌝ }
     ensures { λ r. ⌜ responseFields (r .tar) (r .body) ≡ measured (fieldsOf Kind.Response ciphered (now (packet .entry))) ⌝ }
 {

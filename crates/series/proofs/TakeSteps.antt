@@ -44,7 +44,7 @@ use Rattle.series.specs.Cells.{cellsSize, cellAt, cellPart, joinedOctets
 use Rattle.series.specs.Handing.{Short, cellStart, seriesOctets}
 use Rattle.series.specs.Taking.{State, Answer, After, toldAnswer, kept, packet, refusedBy, state, after, handOut, completes, Step, refuses, repeats, keeps, finishes, stepNew, step, acted, takePart, takeMessage, takePage}
 use Rattle.series.specs.KeepLaws.{Sound}
-use Rattle.series.specs.Deciding.{allWith, hasWith, toldStep, stepAt, keyOf, answerOf, Room, Whole, fronted, emptied, changed, Holds, Seated, Makes, Fitting, takenWhereFit}
+use Rattle.series.specs.Deciding.{allWith, hasWith, toldStep, stepAt, anyKeyOf, answerOf, Room, Whole, fronted, emptied, changed, Holds, Seated, Makes, Fitting, takenWhereFit}
 use Rattle.series.proofs.CellLaws.{cell-part, joined-pieces, short-at}
 use Rattle.series.proofs.TakeLaws as law
 use Rattle.series.proofs.TakeLaws.{message-fitting, page-fitting}
@@ -168,13 +168,13 @@ handed-out : (s : State) (r : Record) (a : Answer) (o : List ℕ) (p : Option (L
 handed-out s r a o none h e = rw (h, e)
 handed-out s r a o (some p) h e = rw (h, e)
 
-of-key : (paged : Bool) → ofPages (keyOf paged) ≡ paged
+of-key : (paged : Bool) → ofPages (anyKeyOf paged) ≡ paged
 of-key true = refl
 of-key false = refl
 
 -- what acting comes to, by whether the key is of pages
 acted-by : (s : State) (key : Key) (total number : ℕ) (octets : List ℕ) (st : Step)
-    → acted slotCount s (keyOf (ofPages key)) total number octets st ≡ acted slotCount s key total number octets st
+    → acted slotCount s (anyKeyOf (ofPages key)) total number octets st ≡ acted slotCount s key total number octets st
 acted-by s key total number octets (refuses m) = refl
 acted-by s key total number octets (repeats i) = refl
 acted-by s key total number octets (keeps i d x) = refl
@@ -184,7 +184,7 @@ acted-by s key total number octets (finishes i) = rw (of-key (ofPages key))
 module _ (k : Kind) (cells output : List ℕ) (paged : Bool) (total number : ℕ) (octets : List ℕ) (i : ℕ) (x : Slot) (room : Room i number octets cells)
     (z : code.Step) (told : toldStep i x z ≡ stepAt cells total number octets i x) (c : Change) where
   abbrev due : Record → After
-  due r = acted slotCount (state r cells output) (keyOf paged) total number octets (stepAt cells total number octets i x)
+  due r = acted slotCount (state r cells output) (anyKeyOf paged) total number octets (stepAt cells total number octets i x)
 
   pub acts-refuses : (q : Refusal) → z ≡ Refuses q → (c .answer ≡ answer.Refused q) × (c .moves ≡ false) → Makes (λ r. Holds r k i x) c cells output due
   acts-refuses q e (h, m) r holds = rw (← told, e, h, m)
@@ -212,7 +212,7 @@ module _ (k : Kind) (key : Key) (o : Seat) (x : Slot) (cells output : List ℕ) 
   partDue r = takePart slotCount (state r cells output) key total number octets
 
   pub part-more : (i : ℕ) (output′ : List ℕ) → o .held ≡ true → i ≡ o .slot
-      → Makes (λ r. Holds r k i x) c cells′ output′ (λ r. acted slotCount (state r cells output) (keyOf (ofPages key)) total number octets (stepAt cells total number octets i x))
+      → Makes (λ r. Holds r k i x) c cells′ output′ (λ r. acted slotCount (state r cells output) (anyKeyOf (ofPages key)) total number octets (stepAt cells total number octets i x))
       → Makes (λ r. Seated r k key o x) c cells′ output′ partDue
   unfolding takePart step
   part-more i output′ h is makes r seated =

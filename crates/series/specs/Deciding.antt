@@ -50,9 +50,9 @@ abbrev pub stepAt : List ℕ → ℕ → ℕ → List ℕ → ℕ → Slot → S
 stepAt cells total number octets = stepIn 0 (state (freshRecord 0 Command) cells []) noKey total number octets
 
 -- Acting looks at one thing of a key, whether it is of pages: a key that is, and one that is not.
-abbrev pub keyOf : Bool → Key
-keyOf true = noKey
-keyOf false = record { sender = 0; width = 8; reference = 0; serial = record { 0 = 0 }; identifier = record { 0 = 0 } }
+abbrev pub anyKeyOf : Bool → Key
+anyKeyOf true = noKey
+anyKeyOf false = record { sender = 0; width = 8; reference = 0; serial = record { 0 = 0 }; identifier = record { 0 = 0 } }
 
 -- ---- acting
 -- the answer to a packet of that length, and to none

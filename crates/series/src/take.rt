@@ -35,7 +35,7 @@ ghost use Rattle.series.specs.Cells.{cellsSize, cellAt, joinedOctets};
 ghost use Rattle.series.specs.Handing.{Place, Short};
 ghost use Rattle.series.specs.Taking as rule;
 ghost use Rattle.series.specs.Taking.{toldAnswer, after};
-ghost use Rattle.series.specs.Deciding.{allWith, toldStep, stepAt, keyOf, answerOf, Room, Whole, fronted, emptied, Holds, Seated, Makes, Fitting, takenWhereFit};
+ghost use Rattle.series.specs.Deciding.{allWith, toldStep, stepAt, anyKeyOf, answerOf, Room, Whole, fronted, emptied, Holds, Seated, Makes, Fitting, takenWhereFit};
 
 // What a part of a series that is there does.
 pub(crate) enum Step {
@@ -192,7 +192,7 @@ fn take_more(
 ) -> Change
     requires { ⌜ Room i number (now part) (now cells) ⌝ }
     requires { ⌜ Whole x i number (now part) (now cells) (now out) ⌝ }
-    ensures { λ r. ⌜ Makes (λ s. Holds s kind i x) r (now (cells .exit)) (now (out .exit)) (λ s. rule.acted slotCount (rule.state s (now (cells .entry)) (now (out .entry))) (keyOf paged) total number (now (part .entry)) (stepAt (now (cells .entry)) total number (now (part .entry)) i x)) ⌝ }
+    ensures { λ r. ⌜ Makes (λ s. Holds s kind i x) r (now (cells .exit)) (now (out .exit)) (λ s. rule.acted slotCount (rule.state s (now (cells .entry)) (now (out .entry))) (anyKeyOf paged) total number (now (part .entry)) (stepAt (now (cells .entry)) total number (now (part .entry)) i x)) ⌝ }
 {
     let step = decide(x, i, total, number, cells, part);
     match step {
@@ -252,7 +252,7 @@ fn unfit(state: Record, cells: usize, out: usize) -> bool
 }
 
 // The answer and the record, as they are handed back.
-fn taken(answer: Answer, left: Record) -> Taken
+fn handed_back(answer: Answer, left: Record) -> Taken
     ensures { λ r. ⌜ (r .answer ≡ answer) × (r .record ≡ left) ⌝ }
 {
     Taken {
@@ -275,7 +275,7 @@ fn take_arrival(
     ensures { λ r. ⌜ after (toldAnswer (r .answer)) (r .record) (now (cells .exit)) (now (out .exit)) ≡ takenWhereFit slotCount (rule.state state (now (cells .entry)) (now (out .entry))) paged (now (octets .entry)) (toldArrival arrival) ⌝ }
 {
     if unfit(state, cells.len(), out.len()) {
-        return taken(Answer::Refused(Refusal::BufferOrRecord), state);
+        return handed_back(Answer::Refused(Refusal::BufferOrRecord), state);
     }
     let kind = state.kind;
     let c = match arrival {
@@ -299,9 +299,9 @@ fn take_arrival(
     let answer = c.answer;
     if c.moves {
         let x = c.entry;
-        return taken(answer, order::replaced(state, c.slot, c.front, x));
+        return handed_back(answer, order::replaced(state, c.slot, c.front, x));
     }
-    taken(answer, state)
+    handed_back(answer, state)
 }
 
 // ---- taking

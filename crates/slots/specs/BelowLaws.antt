@@ -1,7 +1,7 @@
 -- Laws of the tests over the numbers below n.
 use Prim.Native.Nat.{ℕ, zero, suc, _+_, _≤_, _<_}
 use mathlib.Core.Path.{_≡_, refl, sym, ap, _∙_}
-use mathlib.Core.Bool.{Bool, true, false, not, cond, _&&_, _||_}
+use mathlib.Core.Bool.{Bool, true, false, not, cond, _&&_, _||_, and-true}
 use native.Mathlib.Omega.{arith}
 use native.Mathlib.Numerals.{add-one}
 use lib.Bits.{bitOr}
@@ -214,10 +214,6 @@ count-below (suc n) t l = go (count-below n t) (ltb n t) refl
     go ih false e = let p : t ≤ n = ltb-false n t e in ih p
 
 -- ---- two tests that come to one another
-alone : (b : Bool) → b && true ≡ b
-alone true = refl
-alone false = refl
-
 -- the numbers below n that are below t too
 pub all-up-to : (n t : ℕ) (f : ℕ → Bool) → t ≤ n → allBelow n (λ i. not (ltb i t) || f i) ≡ allBelow t f
 unfolding allBelow
@@ -230,7 +226,7 @@ all-up-to (suc n) t f l = go (all-up-to n t f) (same? t (suc n))
     go : (t ≤ n → allBelow n (λ i. not (ltb i t) || f i) ≡ allBelow t f) → Same t (suc n)
         → allBelow n (λ i. not (ltb i t) || f i) && (not (ltb n t) || f n) ≡ allBelow t f
     go ih (same p q) = rw (all-same n (λ i. not (ltb i t) || f i) f (λ i m. low i (omega arith)), low n (omega arith)) (rw q)
-    go ih (other p q) = rw (ih (omega arith), le-ltb n t (omega arith)) (alone (allBelow t f))
+    go ih (other p q) = rw (ih (omega arith), le-ltb n t (omega arith)) (and-true (allBelow t f))
 
 -- tests that differ at 0 alone, where the first asks b as well
 pub all-but-first : (n : ℕ) (f g : ℕ → Bool) (b : Bool) → f 0 ≡ g 0 && b → ((i : ℕ) → 0 < i → f i ≡ g i)
@@ -240,7 +236,7 @@ all-but-first zero f g b z h = z
 all-but-first (suc n) f g b z h = rw (all-but-first n f g b z h, h (suc n) (omega arith)) (swap (allBelow (suc n) g) (g (suc n)) b)
   where
     swap : (a c b : Bool) → (a && b) && c ≡ (a && c) && b
-    swap true true b = alone b
+    swap true true b = and-true b
     swap true false true = refl
     swap true false false = refl
     swap false c b = refl

@@ -12,14 +12,14 @@ use Rattle.slots.specs.BelowLaws.{all-at, all-hold, any-hold, any-at, co
 use Rattle.slots.specs.Slots.{aged, closed}
 
 -- ---- the ranks of n places
-abbrev pub taken : (ℕ → ℕ) → ℕ → Bool
-taken rank i = not (eqb (rank i) 0)
+abbrev pub hasRank : (ℕ → ℕ) → ℕ → Bool
+hasRank rank i = not (eqb (rank i) 0)
 
 abbrev pub someRank : ℕ → (ℕ → ℕ) → ℕ → Bool
 someRank n rank r = anyBelow n (λ i. eqb (rank i) r)
 
 abbrev pub Ranked : ℕ → (ℕ → ℕ) → Type 0
-Ranked n rank = allBelow (countBelow n (taken rank)) (λ r. someRank n rank (r + 1)) ≡ true
+Ranked n rank = allBelow (countBelow n (hasRank rank)) (λ r. someRank n rank (r + 1)) ≡ true
 
 taken-pos : (q : ℕ) → 0 < q → not (eqb q 0) ≡ true
 taken-pos q l = rw (ne-eqb q 0 (λ e. omega arith))
@@ -62,20 +62,20 @@ or-free : (k : ℕ) (b : Bool) (r : ℕ) → k ≡ 0 → b || eqb k (r + 1) ≡ 
 or-free k true r e = refl
 or-free k false r e = ne-eqb k (r + 1) (λ q. omega arith)
 
-different : (n m : ℕ) (rank : ℕ → ℕ) → countBelow m (λ r. someRank n rank (r + 1)) ≤ countBelow n (taken rank)
+different : (n m : ℕ) (rank : ℕ → ℕ) → countBelow m (λ r. someRank n rank (r + 1)) ≤ countBelow n (hasRank rank)
 unfolding anyBelow countBelow
 different zero m rank = rw (none-counted m) (omega arith)
 different (suc n) m rank = go (different n m rank) (same? (rank n) 0)
   where
-    go : countBelow m (λ r. someRank n rank (r + 1)) ≤ countBelow n (taken rank) → Same (rank n) 0
-        → countBelow m (λ r. someRank n rank (r + 1) || eqb (rank n) (r + 1)) ≤ cond (not (eqb (rank n) 0)) (suc (countBelow n (taken rank))) (countBelow n (taken rank))
+    go : countBelow m (λ r. someRank n rank (r + 1)) ≤ countBelow n (hasRank rank) → Same (rank n) 0
+        → countBelow m (λ r. someRank n rank (r + 1) || eqb (rank n) (r + 1)) ≤ cond (not (eqb (rank n) 0)) (suc (countBelow n (hasRank rank))) (countBelow n (hasRank rank))
     go ih (same e p) = rw (e, count-same m (λ r. someRank n rank (r + 1)) (λ r. someRank n rank (r + 1) || eqb (rank n) (r + 1)) (λ r l. or-free (rank n) (someRank n rank (r + 1)) r p)) ih
     go ih (other e p) = rw e (omega (arith, one-more m (rank n) (λ r. someRank n rank (r + 1))))
 
 -- ---- no rank is spare
 module _ (n : ℕ) (rank : ℕ → ℕ) (w : Ranked n rank) where
   m : ℕ
-  m = countBelow n (taken rank)
+  m = countBelow n (hasRank rank)
 
   -- the ranks without that of place j
   abbrev without : ℕ → ℕ → ℕ
@@ -86,14 +86,14 @@ module _ (n : ℕ) (rank : ℕ → ℕ) (w : Ranked n rank) where
   unfolding m
   spare j l u others =
       let full : countBelow m (λ r. someRank n (without j) (r + 1)) ≡ m = count-full m (λ r. someRank n (without j) (r + 1)) (λ r k. still r (others r k)) in
-      let fewer : countBelow n (taken (without j)) < countBelow n (taken rank) =
-      count-less n (taken (without j)) (taken rank) (λ i k. kept i (same? i j)) j l (rw (eq-eqb j j refl)) (taken-pos (rank j) u) in
+      let fewer : countBelow n (hasRank (without j)) < countBelow n (hasRank rank) =
+      count-less n (hasRank (without j)) (hasRank rank) (λ i k. kept i (same? i j)) j l (rw (eq-eqb j j refl)) (taken-pos (rank j) u) in
       omega (arith, different n m (without j))
     where
       still : (r : ℕ) → (i : ℕ) × (i < n) × (i ≡ j → ⊥) × (rank i ≡ r + 1) → someRank n (without j) (r + 1) ≡ true
       still r (i, k, ne, e) = any-hold n (λ i. eqb (without j i) (r + 1)) i k (rw (ne-eqb i j ne) (eq-eqb (rank i) (r + 1) e))
 
-      kept : (i : ℕ) → Same i j → taken (without j) i ≡ true → taken rank i ≡ true
+      kept : (i : ℕ) → Same i j → hasRank (without j) i ≡ true → hasRank rank i ≡ true
       kept i (same e p) t = absurd (clash false (simp e at t) refl)
       kept i (other e p) t = simp e at t
 
@@ -104,7 +104,7 @@ module _ (n : ℕ) (rank : ℕ → ℕ) (w : Ranked n rank) where
       (a .0, a .1, eqb-true (rank (a .0)) (r + 1) (a .2))
 
   -- no rank is above the number of used places
-  pub rank-bound : (j : ℕ) → j < n → rank j ≤ countBelow n (taken rank)
+  pub rank-bound : (j : ℕ) → j < n → rank j ≤ countBelow n (hasRank rank)
   unfolding m
   rank-bound j l = go (leb (rank j) m) refl
     where
@@ -130,7 +130,7 @@ module _ (n : ℕ) (rank : ℕ → ℕ) (w : Ranked n rank) where
   pub last-rank : 0 < n → ((j : ℕ) → j < n → 0 < rank j) → (i : ℕ) × (i < n) × (rank i ≡ n)
   unfolding m
   last-rank pos all =
-      let full : m ≡ n = count-full n (taken rank) (λ i l. taken-pos (rank i) (all i l)) in
+      let full : m ≡ n = count-full n (hasRank rank) (λ i l. taken-pos (rank i) (all i l)) in
       let p = some-place (n - 1) (omega arith) in (p .0, p .1, omega (arith, p .2))
 
 -- ---- what `aged` and `closed` do to a rank
@@ -178,42 +178,42 @@ closed-taken r q h = go (leb q r) refl
 
 -- ---- coming to the front, and freeing
 module _ (n : ℕ) (rank : ℕ → ℕ) (w : Ranked n rank) (i : ℕ) (inside : i < n) (rank′ : ℕ → ℕ) where
-  place : (r : ℕ) → r < countBelow n (taken rank) → (j : ℕ) × (j < n) × (rank j ≡ r + 1)
+  place : (r : ℕ) → r < countBelow n (hasRank rank) → (j : ℕ) × (j < n) × (rank j ≡ r + 1)
   place r l =
-      let a = any-at n (λ j. eqb (rank j) (r + 1)) (all-at (countBelow n (taken rank)) (λ r. someRank n rank (r + 1)) w r l) in
+      let a = any-at n (λ j. eqb (rank j) (r + 1)) (all-at (countBelow n (hasRank rank)) (λ r. someRank n rank (r + 1)) w r l) in
       (a .0, a .1, eqb-true (rank (a .0)) (r + 1) (a .2))
 
   found : (r j : ℕ) → j < n → rank′ j ≡ r + 1 → someRank n rank′ (r + 1) ≡ true
   found r j l e = any-hold n (λ j. eqb (rank′ j) (r + 1)) j l (eq-eqb (rank′ j) (r + 1) e)
 
   pub front-ranked : rank′ i ≡ 1 → ((j : ℕ) → j < n → (j ≡ i → ⊥) → rank′ j ≡ aged (rank i) (rank j)) → Ranked n rank′
-  front-ranked here there = all-hold (countBelow n (taken rank′)) (λ r. someRank n rank′ (r + 1)) each
+  front-ranked here there = all-hold (countBelow n (hasRank rank′)) (λ r. someRank n rank′ (r + 1)) each
     where
-      same-taken : (j : ℕ) → j < n → (j ≡ i → ⊥) → taken rank′ j ≡ taken rank j
+      same-taken : (j : ℕ) → j < n → (j ≡ i → ⊥) → hasRank rank′ j ≡ hasRank rank j
       same-taken j l ne = rw (there j l ne) (aged-taken (rank i) (rank j))
 
-      taken-here : taken rank′ i ≡ true
+      taken-here : hasRank rank′ i ≡ true
       taken-here = rw here
 
-      by-place : (j : ℕ) → j < n → Same j i → 0 < rank i → taken rank′ j ≡ taken rank j
-      by-place j l (same e p) u = ap (taken rank′) p ∙ taken-here ∙ sym (ap (taken rank) p ∙ taken-pos (rank i) u)
+      by-place : (j : ℕ) → j < n → Same j i → 0 < rank i → hasRank rank′ j ≡ hasRank rank j
+      by-place j l (same e p) u = ap (hasRank rank′) p ∙ taken-here ∙ sym (ap (hasRank rank) p ∙ taken-pos (rank i) u)
       by-place j l (other e p) u = same-taken j l p
 
       -- how many are used now
-      old-count : 0 < rank i → countBelow n (taken rank′) ≡ countBelow n (taken rank)
-      old-count u = count-same n (taken rank) (taken rank′) (λ j l. by-place j l (same? j i) u)
+      old-count : 0 < rank i → countBelow n (hasRank rank′) ≡ countBelow n (hasRank rank)
+      old-count u = count-same n (hasRank rank) (hasRank rank′) (λ j l. by-place j l (same? j i) u)
 
-      new-count : rank i ≡ 0 → countBelow n (taken rank′) ≡ suc (countBelow n (taken rank))
-      new-count z = count-one n (taken rank) (taken rank′) i inside (rw z) taken-here same-taken
+      new-count : rank i ≡ 0 → countBelow n (hasRank rank′) ≡ suc (countBelow n (hasRank rank))
+      new-count z = count-one n (hasRank rank) (hasRank rank′) i inside (rw z) taken-here same-taken
 
       -- the place of rank q before is that of rank r + 1 now
       now-at : (r q : ℕ) → (j : ℕ) × (j < n) × (rank j ≡ q) → (rank i ≡ q → ⊥) → aged (rank i) q ≡ r + 1 → someRank n rank′ (r + 1) ≡ true
       now-at r q (j, l, e) ne g = found r j l (there j l (λ p. ne (ap rank (sym p) ∙ e)) ∙ ap (aged (rank i)) e ∙ g)
 
-      before : (q : ℕ) → q < countBelow n (taken rank) → (j : ℕ) × (j < n) × (rank j ≡ suc q)
+      before : (q : ℕ) → q < countBelow n (hasRank rank) → (j : ℕ) × (j < n) × (rank j ≡ suc q)
       before q l = let a = place q l in (a .0, a .1, omega (arith, a .2))
 
-      next : (k : ℕ) → suc k < countBelow n (taken rank′) → Aged (rank i) (suc k) → Aged (rank i) (suc (suc k)) → someRank n rank′ (suc k + 1) ≡ true
+      next : (k : ℕ) → suc k < countBelow n (hasRank rank′) → Aged (rank i) (suc k) → Aged (rank i) (suc (suc k)) → someRank n rank′ (suc k + 1) ≡ true
       next k l (free p e) b = absurd (omega arith)
       next k l (moves u z m e) b = now-at (suc k) (suc k) (before k (omega (arith, old-count (omega arith)))) (λ q. omega arith) (omega arith)
       next k l (yields u z e) b = now-at (suc k) (suc k) (before k (omega (arith, new-count z))) (λ q. omega arith) (omega arith)
@@ -222,22 +222,22 @@ module _ (n : ℕ) (rank : ℕ → ℕ) (w : Ranked n rank) (i : ℕ) (inside : 
       next k l (stays u z m e) (moves u′ z′ m′ e′) = absurd (omega arith)
       next k l (stays u z m e) (yields u′ z′ e′) = absurd (omega arith)
 
-      each : (r : ℕ) → r < countBelow n (taken rank′) → someRank n rank′ (r + 1) ≡ true
+      each : (r : ℕ) → r < countBelow n (hasRank rank′) → someRank n rank′ (r + 1) ≡ true
       each zero l = found 0 i inside here
       each (suc k) l = next k l (aged? (rank i) (suc k)) (aged? (rank i) (suc (suc k)))
 
   pub free-ranked : 0 < rank i → rank′ i ≡ 0 → ((j : ℕ) → j < n → (j ≡ i → ⊥) → rank′ j ≡ closed (rank i) (rank j)) → Ranked n rank′
-  free-ranked u here there = all-hold (countBelow n (taken rank′)) (λ r. someRank n rank′ (r + 1)) each
+  free-ranked u here there = all-hold (countBelow n (hasRank rank′)) (λ r. someRank n rank′ (r + 1)) each
     where
-      count : countBelow n (taken rank) ≡ suc (countBelow n (taken rank′))
+      count : countBelow n (hasRank rank) ≡ suc (countBelow n (hasRank rank′))
       count =
-          count-one n (taken rank′) (taken rank) i inside (rw here) (taken-pos (rank i) u)
+          count-one n (hasRank rank′) (hasRank rank) i inside (rw here) (taken-pos (rank i) u)
           (λ j l ne. rw (there j l ne) (sym (closed-taken (rank i) (rank j) u)))
 
       now-at : (r q : ℕ) → (j : ℕ) × (j < n) × (rank j ≡ q + 1) → (rank i ≡ q + 1 → ⊥) → closed (rank i) (q + 1) ≡ r + 1 → someRank n rank′ (r + 1) ≡ true
       now-at r q (j, l, e) ne g = found r j l (there j l (λ p. ne (ap rank (sym p) ∙ e)) ∙ ap (closed (rank i)) e ∙ g)
 
-      go : (r : ℕ) → r < countBelow n (taken rank′) → (b : Bool) → leb (rank i) (r + 1) ≡ b → someRank n rank′ (r + 1) ≡ true
+      go : (r : ℕ) → r < countBelow n (hasRank rank′) → (b : Bool) → leb (rank i) (r + 1) ≡ b → someRank n rank′ (r + 1) ≡ true
       go r l true e =
           let m : rank i ≤ r + 1 = leb-true (rank i) (r + 1) e in
           now-at r (r + 1) (place (r + 1) (omega (arith, count))) (λ q. omega arith) (closed-far (rank i) (r + 1 + 1) (omega arith) ∙ omega arith)
@@ -245,5 +245,5 @@ module _ (n : ℕ) (rank : ℕ → ℕ) (w : Ranked n rank) (i : ℕ) (inside : 
           let m : r + 1 < rank i = leb-false (rank i) (r + 1) e in
           now-at r r (place r (omega (arith, count))) (λ q. omega arith) (closed-near (rank i) (r + 1) (omega arith))
 
-      each : (r : ℕ) → r < countBelow n (taken rank′) → someRank n rank′ (r + 1) ≡ true
+      each : (r : ℕ) → r < countBelow n (hasRank rank′) → someRank n rank′ (r + 1) ≡ true
       each r l = go r l (leb (rank i) (r + 1)) refl

@@ -16,7 +16,7 @@ use Rattle.types.specs.declared.Kind.{Kind}
 use Rattle.arrival.specs.Keys.{room}
 use Rattle.split.specs.Splitting.{partFrom, partOctets, headerOf, userData}
 use Rattle.split.specs.Laws.{part-whole, part-cut, part-begins, user-data-fits}
-use Rattle.split.specs.Within.{HeaderPut, Ready, Standing}
+use Rattle.split.specs.Within.{HeaderPut, Writable, Standing}
 
 -- ---- where a part begins
 pub from-one : (width number : ℕ) → number ≡ 1 → 0 ≡ partFrom width number
@@ -81,7 +81,7 @@ two-put h own d d₁ d₂ at p l g =
     g ∙ rw (p .stands, p .long, put-fits (placed d 0 h) (length h) own (omega arith), ← zero-add (length h)) (placed-next d 0 h own (omega arith)) in
     record { long = simp length-append (omega arith); stands = stands ∙ placed-start d (h ++ own) }
 
-module _ (k : Kind) (width reference : ℕ) (p : List ℕ) (total number size : ℕ) (r : Ready width reference p total number size) where
+module _ (k : Kind) (width reference : ℕ) (p : List ℕ) (total number size : ℕ) (r : Writable width reference p total number size) where
   pub ready-begins : partFrom width number ≤ length p
   ready-begins =
       let a = r .all in

@@ -21,7 +21,7 @@ use Rattle.split.specs.declared.Due.{Due}
 use Rattle.split.specs.declared.Due.the-variants as due
 use Rattle.split.specs.Splitting.{Piece, written, writesPart, parts, mostSplit, noSuchPart, userData, writing, writeMessage, pages, page, mostPages, writingPage, writePage}
 use Rattle.split.specs.Laws.{most-parts, most-pages}
-use Rattle.split.specs.Within.{Ready, PageReady, Standing, toldDue, judging, judgingPage}
+use Rattle.split.specs.Within.{Writable, PageReady, Standing, toldDue, judging, judgingPage}
 
 -- ---- the refusals of writing user data
 module _ (k : Kind) (width reference : ℕ) (p : List ℕ) (number size : ℕ) where
@@ -161,7 +161,7 @@ module _ (k : Kind) (width reference : ℕ) (p : List ℕ) (number : ℕ) where
   messagePiece = record { total = parts width (length p); octets = userData k width reference p number }
 
   pub message-ready : (x : Due) (total size : ℕ) → toldDue x ≡ judging k width reference p number size → x ≡ due.Total total
-      → Ready width reference p total number size
+      → Writable width reference p total number size
   message-ready x total size e f =
       let (a, s) = passed (messageTests size) x messagePiece e total f in
       let (low, high) = number-within (parts width (length p)) number (a .numbered) in

@@ -51,8 +51,8 @@ abbrev isCommand : Kind → Bool
 isCommand Command = true
 isCommand Response = false
 
-abbrev seenIn : Kind → Concatenation → Seen
-seenIn k c = record {
+abbrev seenWritten : Kind → Concatenation → Seen
+seenWritten k c = record {
   wrong = false;
   twice = false;
   concatenation = c;
@@ -68,7 +68,7 @@ either-width width reference e =
 module _ (reference total number : ℕ) (f : Seen → Outcome Brought) (n : total ≡ 1 → ⊥) where
   part-seen : (k : Kind) (width : ℕ) → (width ≡ 8) ⊎ (width ≡ 16)
       → whereRead (λ es. f (summary es)) (elements (elementsOf k width reference total number))
-      ≡ f (seenIn k (record { width = width; reference = reference; total = total; number = number }))
+      ≡ f (seenWritten k (record { width = width; reference = reference; total = total; number = number }))
   unfolding elementsAfter summary
   part-seen Command width (inl e) = by-test (eqb number 1) (λ h. simp (e, ne-eqb total 1 n, h)) (λ h. simp (e, ne-eqb total 1 n, h))
   part-seen Response width (inl e) = by-test (eqb number 1) (λ h. simp (e, ne-eqb total 1 n, h)) (λ h. simp (e, ne-eqb total 1 n, h))
@@ -79,7 +79,7 @@ module _ (sender start : ℕ) (c : Concatenation) (s : 2 ≤ c .total) (m : c .t
   counted : alone c ≡ false
   counted = rw (ne-eqb (c .total) 0 (omega arith), ne-eqb (c .number) 0 (omega arith), le-ltb (c .total) (c .number) l, ne-eqb (c .total) 1 (omega arith))
 
-  part-judged : (k : Kind) → judged k sender start (seenIn k c) ≡ gives (part (messageKey sender c) (c .total) (c .number) start)
+  part-judged : (k : Kind) → judged k sender start (seenWritten k c) ≡ gives (part (messageKey sender c) (c .total) (c .number) start)
   unfolding judged
   part-judged Command = by-test (eqb (c .number) 1) (λ e. simp (counted, e, le-ltb mostParts (c .total) m)) (λ e. simp (counted, e, le-ltb mostParts (c .total) m))
   part-judged Response = by-test (eqb (c .number) 1) (λ e. simp (counted, e, le-ltb mostParts (c .total) m)) (λ e. simp (counted, e, le-ltb mostParts (c .total) m))

@@ -51,7 +51,7 @@ pub record Numbered (width reference total number size : ℕ) : Type 0 where
   pub first : 1 ≤ number
   pub last : number ≤ total
 
-pub record Ready (width reference : ℕ) (p : List ℕ) (total number size : ℕ) : Type 0 where
+pub record Writable (width reference : ℕ) (p : List ℕ) (total number size : ℕ) : Type 0 where
   pub numbered : Numbered width reference total number size
   pub some : 1 ≤ length p
   pub all : total ≡ parts width (length p)

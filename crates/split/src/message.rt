@@ -14,7 +14,7 @@ ghost use Prim.Native.Nat.{_+_, _≤_};
 ghost use lib.ListN.{length};
 ghost use lib.Dec.{eqb};
 ghost use Rattle.split.specs.Splitting.{parts, partFrom, partOctets, identifierElement, headerOf, userData, mostSplit};
-ghost use Rattle.split.specs.Within.{HeaderPut, Numbered, Ready, Standing, toldDue, judging};
+ghost use Rattle.split.specs.Within.{HeaderPut, Numbered, Writable, Standing, toldDue, judging};
 
 // The most octets that go in one message: what the three of its header leave.
 const MOST_SINGLE: usize = USER_DATA_OCTETS - 3;
@@ -186,7 +186,7 @@ pub(crate) fn write(
     packet: &[u8],
     out: &mut [u8],
 ) -> usize
-    requires { ⌜ Ready width reference (now packet) total number (length (now out)) ⌝ }
+    requires { ⌜ Writable width reference (now packet) total number (length (now out)) ⌝ }
     ensures { λ r. ⌜ Standing (userData kind width reference (now (packet .entry)) number) r (now (out .entry)) (now (out .exit)) ⌝ }
 {
     let at = put_header(kind, width, reference, total, number, out);

@@ -13,14 +13,14 @@ use borrow.Author.Needs.{needs}
 use borrow.Author.Tests.{le-leb, lt-leb, eq-eqb, ne-eqb, leb-true, not-true, not-false}
 use Rattle.octets.specs.Tests.{both, clash}
 use Rattle.words.specs.declared.Pairs.{Pairs}
-use Rattle.words.specs.Words.{isBlank, skipped, ended, isEmpty, between, isDigit, withDigit, shifted, valueFrom, behindDigits, isHex, hexOf, octetOf, octetsAt, behindOctets, isDash, octetsOf, behindWord, Counted, Paired}
+use Rattle.words.specs.Words.{isBlank, skipped, ended, isEmpty, between, isDigit, withDigit, shifted, valueFrom, behindDigits, isHex, hexOf, octetOf, octetsAt, behindOctets, isDash, wordOctets, behindWord, Counted, Paired}
 use Rattle.words.specs.Table.{keys, rowFrom, rowOf, mosts, mostOf}
 use Rattle.words.specs.declared.Number.{Number}
 use Rattle.words.specs.declared.line.Word.{Word}
 use Rattle.words.specs.declared.line.Line.{Line}
-use Rattle.words.specs.Table.{keyOf, allSorts}
+use Rattle.words.specs.Table.{nameAfter, allSorts}
 use Rattle.words.specs.Line as rule
-use Rattle.words.specs.Line.{Read, numberRead, octetsRead, wordRead, Gathered, begun, lineRead, silent, wordOf, gathered, Inside, Reads}
+use Rattle.words.specs.Line.{WordRead, numberRead, octetsRead, wordRead, Gathered, begun, lineRead, silent, wordOf, gathered, Apart, Reads}
 
 -- ---- blanks
 pub record Skipping (line : List ℕ) (from at : ℕ) : Type 0 where
@@ -268,7 +268,7 @@ module _ (line : List ℕ) (from end : ℕ) (there : from < length line) where
   dash-at = rw (drop-cons line from 0)
 
   pub dash-read : end ≤ from → getD line from 0 ≡ 45
-      → Paired (octetsOf (drop from line)) (behindWord (drop from line)) end line (record { count = 0; at = from + 1 }) line
+      → Paired (wordOctets (drop from line)) (behindWord (drop from line)) end line (record { count = 0; at = from + 1 }) line
   dash-read l e =
       let d : isDash (drop from line) ≡ true = dash-at ∙ eq-eqb (getD line from 0) 45 e in
       record {
@@ -281,7 +281,7 @@ module _ (line : List ℕ) (from end : ℕ) (there : from < length line) where
 
   pub pairs-read : (r : Pairs) (after : List ℕ) → (getD line from 0 ≡ 45 → ⊥)
       → Paired (octetsAt (drop from line)) (behindOctets (drop from line)) end line r after
-      → Paired (octetsOf (drop from line)) (behindWord (drop from line)) end line r after
+      → Paired (wordOctets (drop from line)) (behindWord (drop from line)) end line r after
   pairs-read r after f h = rw (dash-at ∙ ne-eqb (getD line from 0) 45 f) h
 
 -- ---- the table
@@ -337,10 +337,10 @@ module _ (sort at end most : ℕ) (line : List ℕ) (n : Number) (b : Bool) wher
       ≡ numberRead sort (take end line) (drop at line)
   number-told is h e = rw (← is, ← h .is, ← h .text, ← e)
 
-  pub number-inside : end ≤ at → Counted (eqb sort 1) most at line n → Inside end (n .at) line line
+  pub number-inside : end ≤ at → Counted (eqb sort 1) most at line n → Apart end (n .at) line line
   number-inside l h = record { apart = omega (arith, h .past); within = h .inside; long = refl }
 
-module _ (wanted at end : ℕ) (line after : List ℕ) (p : Pairs) (h : Paired (octetsOf (drop at line)) (behindWord (drop at line)) end line p after) where
+module _ (wanted at end : ℕ) (line after : List ℕ) (p : Pairs) (h : Paired (wordOctets (drop at line)) (behindWord (drop at line)) end line p after) where
   pub octets-sum : end + p .count ≤ length line
   octets-sum = omega (arith, h .inside .0, h .inside .1)
 
@@ -348,24 +348,24 @@ module _ (wanted at end : ℕ) (line after : List ℕ) (p : Pairs) (h : Paired (
       → wordOf (record { good = (eqb wanted 0 || eqb (p .count) wanted) && b; value = end + p .count; at = p .at; end = end + p .count }) after
       ≡ octetsRead wanted (take end line) (drop at line)
   octets-told b l m e =
-      let v : end + p .count ≡ length (take end line ++ octetsOf (drop at line)) =
+      let v : end + p .count ≡ length (take end line ++ wordOctets (drop at line)) =
       rw (length-append, length-take-le end line (omega arith), h .many) in
       rw (h .octets′, h .text′, v, h .many, e, h .text′)
 
-  pub octets-inside : Inside (end + p .count) (p .at) line after
+  pub octets-inside : Apart (end + p .count) (p .at) line after
   octets-inside = record { apart = h .inside .0; within = h .inside .1; long = h .long }
 
-pub word-octets : (sort : ℕ) (o t : List ℕ) (w : Read) → 8 ≤ sort → w ≡ octetsRead (sort % 8) o t → w ≡ wordRead sort o t
+pub word-octets : (sort : ℕ) (o t : List ℕ) (w : WordRead) → 8 ≤ sort → w ≡ octetsRead (sort % 8) o t → w ≡ wordRead sort o t
 unfolding wordRead
 word-octets sort o t w l e = rw (le-leb 8 sort l) e
 
-pub word-number : (sort : ℕ) (o t : List ℕ) (w : Read) → sort < 8 → w ≡ numberRead sort o t → w ≡ wordRead sort o t
+pub word-number : (sort : ℕ) (o t : List ℕ) (w : WordRead) → sort < 8 → w ≡ numberRead sort o t → w ≡ wordRead sort o t
 unfolding wordRead
 word-number sort o t w l e = rw (lt-leb 8 sort l) e
 
 -- ---- a line
 module _ (s : Line) (w : Word) (r : Line) (sort : ℕ) where
-  pub worded-name : sort ≡ 1 → ((l k : List ℕ) → gathered r l ≡ rule.named (gathered s k) (wordOf w l) (rowOf (keyOf (s .row) (w .value))))
+  pub worded-name : sort ≡ 1 → ((l k : List ℕ) → gathered r l ≡ rule.named (gathered s k) (wordOf w l) (rowOf (nameAfter (s .row) (w .value))))
       → (l k : List ℕ) → gathered r l ≡ rule.worded (gathered s k) sort (wordOf w l)
   worded-name e h l k = rw (eq-eqb sort 1 e) (h l k)
 
@@ -373,9 +373,9 @@ module _ (s : Line) (w : Word) (r : Line) (sort : ℕ) where
       → (l k : List ℕ) → gathered r l ≡ rule.worded (gathered s k) sort (wordOf w l)
   worded-value f h l k = rw (ne-eqb sort 1 f) (h l k)
 
-pub named-told : (s : Line) (w : Word) (row sorts : ℕ) → row ≡ rowOf (keyOf (s .row) (w .value)) → sorts ≡ getD allSorts row 0 → (l k : List ℕ)
+pub named-told : (s : Line) (w : Word) (row sorts : ℕ) → row ≡ rowOf (nameAfter (s .row) (w .value)) → sorts ≡ getD allSorts row 0 → (l k : List ℕ)
     → gathered (record { understood = false; more = w .good && not (eqb row 0); row = row; sorts = sorts; values = s .values; count = s .count; at = w .at; end = w .end }) l
-    ≡ rule.named (gathered s k) (wordOf w l) (rowOf (keyOf (s .row) (w .value)))
+    ≡ rule.named (gathered s k) (wordOf w l) (rowOf (nameAfter (s .row) (w .value)))
 named-told s w row sorts e f l k = rw (← e, f)
 
 -- the flag that ends a line
@@ -392,7 +392,7 @@ module _ (last : Bool) (sort : ℕ) where
 
   module _ (s r : Line) (line : List ℕ) (at : ℕ) (t : drop at line ≡ skipped (drop (s .at) line)) (is : last ≡ isEmpty (drop at line)) (k : sort ≡ s .sorts % 16) where
     pub step-closed : (last || eqb sort 0 || eqb sort 15) ≡ true
-        → ((l : List ℕ) → gathered r l ≡ rule.closed (gathered s l) (eqb sort 15 || (eqb sort 0 && last)) (drop at l))
+        → ((l : List ℕ) → gathered r l ≡ rule.lineEnds (gathered s l) (eqb sort 15 || (eqb sort 0 && last)) (drop at l))
         → gathered r line ≡ rule.step (gathered s line)
     unfolding rule.step
     step-closed e h = h line ∙ rw (← k, ← t, ← is, e)
@@ -402,13 +402,13 @@ module _ (last : Bool) (sort : ℕ) where
         → ((l k : List ℕ) → gathered r l ≡ rule.worded (gathered s k) sort (wordOf w l))
         → gathered r after ≡ rule.step (gathered s line)
     unfolding rule.step
-    step-worded e w after f h = h after line ∙ ap (λ (x : Read). rule.worded (gathered s line) sort x) f ∙ sym (rw (← k, ← t, ← is, e))
+    step-worded e w after f h = h after line ∙ ap (λ (x : WordRead). rule.worded (gathered s line) sort x) f ∙ sym (rw (← k, ← t, ← is, e))
 
 module _ (r : Line) (line after : List ℕ) (at end : ℕ) (a : r .at ≡ at) (e : r .end ≡ end) where
-  pub inside-closed : (from : ℕ) → end ≤ from → from ≤ at → at ≤ length line → Inside (r .end) (r .at) line line
+  pub inside-closed : (from : ℕ) → end ≤ from → from ≤ at → at ≤ length line → Apart (r .end) (r .at) line line
   inside-closed from l m n = record { apart = omega (arith, a, e); within = omega (arith, a); long = refl }
 
-  pub inside-worded : Inside end at line after → Inside (r .end) (r .at) line after
+  pub inside-worded : Apart end at line after → Apart (r .end) (r .at) line after
   inside-worded i = record { apart = omega (arith, a, e, i .apart); within = omega (arith, a, i .within); long = i .long }
 
 module _ (n : ℕ) (x : Gathered) where
@@ -423,7 +423,7 @@ module _ (n : ℕ) (x : Gathered) where
 -- after k words, so many fewer lead to the same
 pub record Reading (line₀ line : List ℕ) (s : Line) (k : ℕ) : Type 0 where
   pub is : rule.steps (16 - k) (gathered s line) ≡ lineRead line₀
-  pub inside : Inside (s .end) (s .at) line₀ line
+  pub inside : Apart (s .end) (s .at) line₀ line
   pub some : k ≤ 16
 
 pub read-none : (line : List ℕ) (s : Line) → ((l : List ℕ) → gathered s l ≡ begun l) → s .at ≡ 0 → s .end ≡ 0 → Reading line line s 0
@@ -458,7 +458,7 @@ module _ (line₀ line : List ℕ) (s : Line) (k : ℕ) (u : Reading line₀ lin
     read-ends e = record { is = sym (stays (16 - (k + 1)) (gathered s line) (not-true (s .more) e)) ∙ next-read; inside = u .inside }
 
     pub read-more : (r : Line) (after : List ℕ) → not (s .more) ≡ false → gathered r after ≡ rule.step (gathered s line)
-        → Inside (r .end) (r .at) line after → Reading line₀ after r (k + 1)
+        → Apart (r .end) (r .at) line after → Reading line₀ after r (k + 1)
     read-more r after e f i =
         record {
           is = ap (λ (x : Gathered). rule.steps (16 - (k + 1)) x) f ∙ sym (goes (16 - (k + 1)) (gathered s line) (not-false (s .more) e)) ∙ next-read;

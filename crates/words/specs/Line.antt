@@ -7,18 +7,18 @@ use lib.Dec.{eqb, leb}
 use lib.ListN.{length, take, drop, getD, set}
 use Rattle.words.specs.declared.line.Word.{Word}
 use Rattle.words.specs.declared.line.Line.{Line}
-use Rattle.words.specs.Words.{skipped, ended, isEmpty, valueFrom, behindDigits, octetsOf, behindWord}
-use Rattle.words.specs.Table.{keyOf, rowOf, allSorts, mostOf}
+use Rattle.words.specs.Words.{skipped, ended, isEmpty, valueFrom, behindDigits, wordOctets, behindWord}
+use Rattle.words.specs.Table.{nameAfter, rowOf, allSorts, mostOf}
 
 -- ---- one word
 -- what reading it gave: whether it is of its sort, its value, the octets of the line so far, and the text behind it
-pub record Read : Type 0 where
+pub record WordRead : Type 0 where
   pub good : Bool
   pub value : ℕ
   pub octets : List ℕ
   pub text : List ℕ
 
-abbrev pub numberRead : ℕ → List ℕ → List ℕ → Read
+abbrev pub numberRead : ℕ → List ℕ → List ℕ → WordRead
 numberRead sort before t =
     record {
       good = leb (valueFrom (eqb sort 1) (mostOf sort) 0 t) (mostOf sort) && ended (behindDigits (eqb sort 1) t);
@@ -28,16 +28,16 @@ numberRead sort before t =
     }
 
 -- `wanted` octets, or any number of them if that is 0; their value is how many the line has so far
-abbrev pub octetsRead : ℕ → List ℕ → List ℕ → Read
+abbrev pub octetsRead : ℕ → List ℕ → List ℕ → WordRead
 octetsRead wanted before t =
     record {
-      good = (eqb wanted 0 || eqb (length (octetsOf t)) wanted) && ended (behindWord t);
-      value = length (before ++ octetsOf t);
-      octets = before ++ octetsOf t;
+      good = (eqb wanted 0 || eqb (length (wordOctets t)) wanted) && ended (behindWord t);
+      value = length (before ++ wordOctets t);
+      octets = before ++ wordOctets t;
       text = behindWord t;
     }
 
-unfoldable pub wordRead : ℕ → List ℕ → List ℕ → Read
+unfoldable pub wordRead : ℕ → List ℕ → List ℕ → WordRead
 wordRead sort before t = cond (leb 8 sort) (octetsRead (sort % 8) before t) (numberRead sort before t)
 
 -- ---- a line
@@ -61,11 +61,11 @@ abbrev pub begun : List ℕ → Gathered
 begun line = record { understood = false; more = true; row = 0; sorts = 1; values = noValues; count = 0; octets = []; text = line }
 
 -- where it ends, and where the parts of a slot begin
-abbrev pub closed : Gathered → Bool → List ℕ → Gathered
-closed s good t = record { understood = good; more = false; row = s .row; sorts = s .sorts; values = s .values; count = s .count; octets = s .octets; text = t }
+abbrev pub lineEnds : Gathered → Bool → List ℕ → Gathered
+lineEnds s good t = record { understood = good; more = false; row = s .row; sorts = s .sorts; values = s .values; count = s .count; octets = s .octets; text = t }
 
 -- behind a name
-abbrev pub named : Gathered → Read → ℕ → Gathered
+abbrev pub named : Gathered → WordRead → ℕ → Gathered
 named s w row =
     record {
       understood = false;
@@ -79,7 +79,7 @@ named s w row =
     }
 
 -- behind another word
-abbrev pub valued : Gathered → Read → Gathered
+abbrev pub valued : Gathered → WordRead → Gathered
 valued s w =
     record {
       understood = false;
@@ -92,13 +92,13 @@ valued s w =
       text = w .text;
     }
 
-abbrev pub worded : Gathered → ℕ → Read → Gathered
-worded s sort w = cond (eqb sort 1) (named s w (rowOf (keyOf (s .row) (w .value)))) (valued s w)
+abbrev pub worded : Gathered → ℕ → WordRead → Gathered
+worded s sort w = cond (eqb sort 1) (named s w (rowOf (nameAfter (s .row) (w .value)))) (valued s w)
 
 -- one word more
 abbrev pub stepped : Gathered → ℕ → List ℕ → Gathered
 stepped s sort t =
-    cond (isEmpty t || eqb sort 0 || eqb sort 15) (closed s (eqb sort 15 || (eqb sort 0 && isEmpty t)) t)
+    cond (isEmpty t || eqb sort 0 || eqb sort 15) (lineEnds s (eqb sort 15 || (eqb sort 0 && isEmpty t)) t)
     (worded s sort (wordRead sort (s .octets) t))
 
 unfoldable pub step : Gathered → Gathered
@@ -122,7 +122,7 @@ abbrev pub silent : List ℕ → Bool
 silent line = isComment (skipped line)
 
 -- ---- as the code has it: octets and text are places of the line
-abbrev pub wordOf : Word → List ℕ → Read
+abbrev pub wordOf : Word → List ℕ → WordRead
 wordOf w line = record { good = w .good; value = w .value; octets = take (w .end) line; text = drop (w .at) line }
 
 abbrev pub gathered : Line → List ℕ → Gathered
@@ -139,7 +139,7 @@ gathered s line =
     }
 
 -- the octets that were read end before the text to come, and the line is as long as it was
-pub record Inside (end at : ℕ) (before after : List ℕ) : Type 0 where
+pub record Apart (end at : ℕ) (before after : List ℕ) : Type 0 where
   pub apart : end ≤ at
   pub within : at ≤ length before
   pub long : length after ≡ length before
@@ -147,4 +147,4 @@ pub record Inside (end at : ℕ) (before after : List ℕ) : Type 0 where
 -- what reading a line leaves
 pub record Reads (r : Line) (before after : List ℕ) : Type 0 where
   pub is : gathered r after ≡ lineRead before
-  pub inside : Inside (r .end) (r .at) before after
+  pub inside : Apart (r .end) (r .at) before after

@@ -19,8 +19,8 @@ number = 2
 abbrev pub pair : ℕ
 pair = 3
 
-abbrev pub lent : ℕ
-lent = 4
+abbrev pub upToLent : ℕ
+upToLent = 4
 
 abbrev pub octet : ℕ
 octet = 5
@@ -34,8 +34,8 @@ any = 8
 abbrev pub octets : ℕ → ℕ
 octets n = 8 + n
 
-abbrev pub parts : ℕ
-parts = 15
+abbrev pub slotParts : ℕ
+slotParts = 15
 
 -- the greatest number of each sort; no name has more than eight letters
 abbrev pub mosts : List ℕ
@@ -73,12 +73,12 @@ rows =
     row 3 "response" end ∷
     row 0 "fill" (octets 1) ∷
     row 0 "lend" name ∷
-    row 7 "cells" lent ∷
-    row 7 "output" lent ∷
-    row 7 "buffer" lent ∷
+    row 7 "cells" upToLent ∷
+    row 7 "output" upToLent ∷
+    row 7 "buffer" upToLent ∷
     row 7 "right" end ∷
     row 0 "number" end ∷
-    row 0 "slot" (place then octet then octets 4 then octet then pair then octets 2 then octets 2 then octet then parts) ∷
+    row 0 "slot" (place then octet then octets 4 then octet then pair then octets 2 then octets 2 then octet then slotParts) ∷
     row 0 "record" end ∷
     row 0 "formed" end ∷
     row 0 "cells" (number then number) ∷
@@ -118,11 +118,11 @@ rows =
     []
 
 -- the key of a name behind an earlier row
-abbrev pub keyOf : ℕ → ℕ → ℕ
-keyOf earlier n = earlier % 64 * 1099511627776 + n % 1099511627776
+abbrev pub nameAfter : ℕ → ℕ → ℕ
+nameAfter earlier n = earlier % 64 * 1099511627776 + n % 1099511627776
 
 abbrev pub keys : List ℕ
-keys = map (λ r. keyOf (r .earlier) (letters 0 (r .named))) rows
+keys = map (λ r. nameAfter (r .earlier) (letters 0 (r .named))) rows
 
 abbrev pub allSorts : List ℕ
 allSorts = map (λ r. r .sorts) rows

@@ -88,8 +88,8 @@ unfoldable pub isDash : List ℕ → Bool
 isDash [] = false
 isDash (x ∷ w) = eqb x 45
 
-abbrev pub octetsOf : List ℕ → List ℕ
-octetsOf text = cond (isDash text) [] (octetsAt text)
+abbrev pub wordOctets : List ℕ → List ℕ
+wordOctets text = cond (isDash text) [] (octetsAt text)
 
 abbrev pub behindWord : List ℕ → List ℕ
 behindWord text = cond (isDash text) (drop 1 text) (behindOctets text)

@@ -9,7 +9,7 @@ ghost use mathlib.Core.Bool.{false};
 ghost use Prim.Native.Nat.{_≤_, _<_};
 ghost use lib.ListN.{length, drop};
 ghost use Rattle.words.specs.Words as rule;
-ghost use Rattle.words.specs.Words.{isBlank, skipped, ended, isEmpty, isDigit, withDigit, isHex, hexOf, octetOf, octetsAt, behindOctets, octetsOf, behindWord, Counted, Paired};
+ghost use Rattle.words.specs.Words.{isBlank, skipped, ended, isEmpty, isDigit, withDigit, isHex, hexOf, octetOf, octetsAt, behindOctets, wordOctets, behindWord, Counted, Paired};
 
 // The number that was read, and the place behind it.
 pub struct Number {
@@ -173,7 +173,7 @@ fn pairs_at(line: &mut [u8], from: usize, end: usize) -> Pairs
 // Reads octets, `-` for none.
 pub(crate) fn octets_at(line: &mut [u8], from: usize, end: usize) -> Pairs
     requires { ⌜ (end ≤ from) × (from < length (now line)) ⌝ }
-    ensures { λ r. ⌜ Paired (octetsOf (drop from (now (line .entry)))) (behindWord (drop from (now (line .entry)))) end (now (line .entry)) r (now (line .exit)) ⌝ }
+    ensures { λ r. ⌜ Paired (wordOctets (drop from (now (line .entry)))) (behindWord (drop from (now (line .entry)))) end (now (line .entry)) r (now (line .exit)) ⌝ }
 {
     if line[from] == 45 {
         return Pairs {

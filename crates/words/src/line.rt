@@ -13,8 +13,8 @@ ghost use mathlib.Core.List.{List};
 ghost use Prim.Native.Nat.{ℕ, _≤_, _<_};
 ghost use lib.ListN.{length, take, drop};
 ghost use Rattle.words.specs.Line as rule;
-ghost use Rattle.words.specs.Line.{silent, numberRead, octetsRead, wordRead, begun, wordOf, gathered, Inside, Reads};
-ghost use Rattle.words.specs.Table.{keyOf, rowOf};
+ghost use Rattle.words.specs.Line.{silent, numberRead, octetsRead, wordRead, begun, wordOf, gathered, Apart, Reads};
+ghost use Rattle.words.specs.Table.{nameAfter, rowOf};
 
 // What reading a word gave: whether it is of its sort, its value, the place behind it, and how many octets the line has so far.
 pub(crate) struct Word {
@@ -41,7 +41,7 @@ pub struct Line {
 fn number_read(sort: u8, line: &[u8], at: usize, end: usize) -> Word
     requires { ⌜ (end ≤ at) × (at ≤ length (now line)) ⌝ }
     ensures { λ r. ⌜ wordOf r (now (line .entry)) ≡ numberRead sort (take end (now (line .entry))) (drop at (now (line .entry))) ⌝ }
-    ensures { λ r. ⌜ Inside (r .end) (r .at) (now (line .entry)) (now (line .entry)) ⌝ }
+    ensures { λ r. ⌜ Apart (r .end) (r .at) (now (line .entry)) (now (line .entry)) ⌝ }
 {
     let most = most_of(sort);
     let n = number_at(line, at, sort == 1, most);
@@ -58,7 +58,7 @@ fn number_read(sort: u8, line: &[u8], at: usize, end: usize) -> Word
 fn octets_read(wanted: usize, line: &mut [u8], at: usize, end: usize) -> Word
     requires { ⌜ (end ≤ at) × (at < length (now line)) ⌝ }
     ensures { λ r. ⌜ wordOf r (now (line .exit)) ≡ octetsRead wanted (take end (now (line .entry))) (drop at (now (line .entry))) ⌝ }
-    ensures { λ r. ⌜ Inside (r .end) (r .at) (now (line .entry)) (now (line .exit)) ⌝ }
+    ensures { λ r. ⌜ Apart (r .end) (r .at) (now (line .entry)) (now (line .exit)) ⌝ }
 {
     let p = octets_at(line, at, end);
     let next = end + p.count;
@@ -74,7 +74,7 @@ fn octets_read(wanted: usize, line: &mut [u8], at: usize, end: usize) -> Word
 fn word_read(sort: u8, line: &mut [u8], at: usize, end: usize) -> Word
     requires { ⌜ (end ≤ at) × (at < length (now line)) ⌝ }
     ensures { λ r. ⌜ wordOf r (now (line .exit)) ≡ wordRead sort (take end (now (line .entry))) (drop at (now (line .entry))) ⌝ }
-    ensures { λ r. ⌜ Inside (r .end) (r .at) (now (line .entry)) (now (line .exit)) ⌝ }
+    ensures { λ r. ⌜ Apart (r .end) (r .at) (now (line .entry)) (now (line .exit)) ⌝ }
 {
     if 8 <= sort {
         return octets_read((sort % 8) as usize, line, at, end);
@@ -100,7 +100,7 @@ fn start() -> Line
 
 // There is no word to come.
 fn closed(s: Line, good: bool, at: usize) -> Line
-    ensures { λ r. ⌜ ((l : List ℕ) → gathered r l ≡ rule.closed (gathered s l) good (drop at l)) × (r .at ≡ at) × (r .end ≡ s .end) ⌝ }
+    ensures { λ r. ⌜ ((l : List ℕ) → gathered r l ≡ rule.lineEnds (gathered s l) good (drop at l)) × (r .at ≡ at) × (r .end ≡ s .end) ⌝ }
 {
     let mut t = s;
     t.understood = good;
@@ -111,7 +111,7 @@ fn closed(s: Line, good: bool, at: usize) -> Line
 
 // Behind a name, which leads to a row.
 fn named(s: Line, w: Word) -> Line
-    ensures { λ r. ⌜ ((l k : List ℕ) → gathered r l ≡ rule.named (gathered s k) (wordOf w l) (rowOf (keyOf (s .row) (w .value)))) × (r .at ≡ w .at) × (r .end ≡ w .end) ⌝ }
+    ensures { λ r. ⌜ ((l k : List ℕ) → gathered r l ≡ rule.named (gathered s k) (wordOf w l) (rowOf (nameAfter (s .row) (w .value)))) × (r .at ≡ w .at) × (r .end ≡ w .end) ⌝ }
 {
     let row = find((s.row % 64) as u64 * 1099511627776 + w.value % 1099511627776);
     let mut t = s;
@@ -154,7 +154,7 @@ fn worded(s: Line, sort: u8, w: Word) -> Line
 fn step(s: Line, line: &mut [u8]) -> Line
     requires { ⌜ (s .end ≤ s .at) × (s .at ≤ length (now line)) ⌝ }
     ensures { λ r. ⌜ gathered r (now (line .exit)) ≡ rule.step (gathered s (now (line .entry))) ⌝ }
-    ensures { λ r. ⌜ Inside (r .end) (r .at) (now (line .entry)) (now (line .exit)) ⌝ }
+    ensures { λ r. ⌜ Apart (r .end) (r .at) (now (line .entry)) (now (line .exit)) ⌝ }
 {
     let sort = (s.sorts % 16) as u8;
     let at = skip(line, s.at);

@@ -3,13 +3,13 @@ use Prim.Native.Nat.{_≤_, _-_}
 use mathlib.Core.Path.{_≡_}
 use mathlib.Core.Bool.{not}
 use Rattle.slots.specs.Below.{allBelow}
-use Rattle.formed.specs.Formed.{clash}
+use Rattle.formed.specs.Formed.{keyTwice}
 use Rattle.formed.proofs.Steps.{formedSteps}
 use Rattle.formed.proofs.key_differs.Statement.{statement}
 use Rattle.formed.proofs.key_differs.Tie as tie
 
 abbrev Inv-loop : tie.InvT-loop
-Inv-loop i state key used ok₀ j₀ ok j = (j ≤ i) × (ok ≡ allBelow j (λ j. not (clash (state .slots) i j)))
+Inv-loop i state key used ok₀ j₀ ok j = (j ≤ i) × (ok ≡ allBelow j (λ j. not (keyTwice (state .slots) i j)))
 
 abbrev μ-loop : tie.MeasureT-loop
 μ-loop i state key used ok₀ j₀ ok j = i - j

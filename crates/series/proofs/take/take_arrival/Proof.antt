@@ -52,7 +52,7 @@ same-length-2 : tie.Need-same-length-2
 same-length-2 c = lengths (c .before .before .before .before) .1
 
 returns-2 : tie.Need-returns-2
-returns-2 c = search (moved-so, done (c .before .before .before .before), c .before .replaced .ensures, c .before .before .before .if2 .taken, c .taken2 .ensures)
+returns-2 c = search (moved-so, done (c .before .before .before .before), c .before .replaced .ensures, c .before .before .before .if2 .taken, c .handed-back2 .ensures)
 
 same-length-3 : tie.Need-same-length-3
 same-length-3 c = lengths (c .before .before) .0
@@ -61,7 +61,7 @@ same-length-4 : tie.Need-same-length-4
 same-length-4 c = lengths (c .before .before) .1
 
 returns-3 : tie.Need-returns-3
-returns-3 c = search (stayed-so, done (c .before .before), c .before .if2 .left, c .taken3 .ensures)
+returns-3 c = search (stayed-so, done (c .before .before), c .before .if2 .left, c .handed-back3 .ensures)
 
 pub take-arrival-spec : {M : Type 1} → statement M
 take-arrival-spec =
