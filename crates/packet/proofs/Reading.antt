@@ -1,5 +1,5 @@
 -- What the proofs of `read` cite: one law for each return or call, over plain variables.
-use Prim.Native.Nat.{ℕ, zero, suc, _+_, _-_, _≤_, _<_}
+use Prim.Native.Nat.{ℕ, zero, suc, _+_, _-_, _%_, _≤_, _<_}
 use mathlib.Core.Path.{_≡_, refl, sym, ap, _∙_}
 use mathlib.Core.Bool.{Bool, true, false, not, _&&_}
 use mathlib.Core.List.{List, [], _∷_, _++_}
@@ -25,7 +25,7 @@ use Rattle.types.specs.declared.Refusal.{Refusal}
 use Rattle.packet.specs.declared.read.Judged.{Judged}
 use Rattle.packet.specs.declared.read.Judged.the-variants as judged
 use Rattle.types.specs.Refusals.{Outcome, refused, gives, refusalNumber}
-use Rattle.packet.specs.Packets.{before, least, chl, formedBy, wellFormed, cipheredCommand, fieldsOf, Parsed, plainParsed, cipheredParsed, measured, readable, parsing}
+use Rattle.packet.specs.Packets.{before, least, chl, formedBy, wellFormed, cipheredCommand, fieldsOf, differ, againstBits, againstCheck, Parsed, plainParsed, cipheredParsed, measured, readable, parsing}
 use Rattle.packet.specs.Told.{tarOctets, clearOctets, counterOctets, commandFields, responseFields}
 use Rattle.packet.specs.Laws.{PacketLengths, formed-facts, before-least, least-most}
 use Rattle.packet.specs.Judging.{toldJudged, judged-formed, judged-header, judged-size, judged-readable, judged-refused}
@@ -45,20 +45,51 @@ short-unformed k p l = go (wellFormed k p) refl
     go true e = let h : PacketLengths k p = formed-facts k p e in absurd (omega arith)
     go false e = refl
 
+-- ---- check bits
+first-of-take : (n : ℕ) (l : List ℕ) → 0 < n → getD (take n l) 0 0 ≡ getD l 0 0
+first-of-take (suc n) [] l = refl
+first-of-take (suc n) (x ∷ o) l = refl
+first-of-take zero o l = absurd (omega arith)
+
+first-fixed : (k : Kind) (p : List ℕ) → getD (take (least k) (drop 3 p)) 0 0 ≡ getD p 3 0
+first-fixed k p = first-of-take (least k) (drop 3 p) (omega (arith, before-least k)) ∙ getD-drop 3 p 0 0
+
+pub bits-command : (k : Kind) (spi check : ℕ) (r : Bool) → k ≡ Command → r ≡ differ (eqb (spi % 4) 0) (eqb check 0) → r ≡ againstBits k spi check
+bits-command k spi check r e f = rw e f
+
+module _ (k : Kind) (c : Bool) (p : List ℕ) (f : PacketLengths k p) where
+  pub ciphered-unchecked : c ≡ true → false ≡ againstCheck k (fieldsOf k c p)
+  ciphered-unchecked t = rw t
+
+  pub has-spi : 3 < length p
+  has-spi = omega (arith, before-least k)
+
+  pub plain-checked : (r : Bool) (h n : ℕ) → h ≡ chl p → n ≡ h - least k → c ≡ false → r ≡ againstBits k (getD p 3 0) n → r ≡ againstCheck k (fieldsOf k c p)
+  plain-checked r h n g i t b =
+      let m : length (take (chl p - least k) (drop (least k) (drop 3 p))) ≡ n = simp (length-take, length-drop) (omega arith) in
+      let s : getD (take (least k) (drop 3 p)) 0 0 ≡ getD p 3 0 = first-fixed k p in rw (t, m, s) b
+
 -- ---- what every reading asks first
-module _ (k : Kind) (p : List ℕ) (w : Bool) (e : w ≡ wellFormed k p) where
-  pub unformed-refused : (o : Outcome ℕ) → not w ≡ true → refused 9 ≡ readable k p o
+module _ (k : Kind) (c : Bool) (p : List ℕ) (w : Bool) (e : w ≡ wellFormed k p) where
+  pub unformed-refused : (o : Outcome ℕ) → not w ≡ true → refused 9 ≡ readable k c p o
   unformed-refused o t = rw (← e, not-true w t)
 
   module _ (t : not w ≡ false) where
-    pub long-refused : (o : Outcome ℕ) → 2142 < length p → refused 12 ≡ readable k p o
+    pub long-refused : (o : Outcome ℕ) → 2142 < length p → refused 12 ≡ readable k c p o
     long-refused o l = rw (← e, not-false w t, lt-ltb 2142 (length p) l)
 
-    pub formed-header : 3 ≤ length p
-    formed-header = let f : PacketLengths k p = formed-facts k p (sym e ∙ not-false w t) in omega arith
+    pub formed-lengths : PacketLengths k p
+    formed-lengths = formed-facts k p (sym e ∙ not-false w t)
 
-    pub readable-header : (r : ℕ) → r ≡ chl p → length p ≤ 2142 → gives r ≡ readable k p (gives (chl p))
-    readable-header r f l = rw (← e, not-false w t, le-ltb 2142 (length p) l, f)
+    pub formed-header : 3 ≤ length p
+    formed-header = let f : PacketLengths k p = formed-lengths in omega arith
+
+    module _ (l : length p ≤ 2142) (a : Bool) (b : a ≡ againstCheck k (fieldsOf k c p)) where
+      pub check-refused : (o : Outcome ℕ) → a ≡ true → refused 15 ≡ readable k c p o
+      check-refused o s = rw (← e, not-false w t, le-ltb 2142 (length p) l, ← b, s)
+
+      pub readable-header : (r : ℕ) → r ≡ chl p → a ≡ false → gives r ≡ readable k c p (gives (chl p))
+      readable-header r f s = rw (← e, not-false w t, le-ltb 2142 (length p) l, ← b, s, f)
 
 -- ---- fields
 -- n octets of l from the place i on, one by one
@@ -118,16 +149,16 @@ module _ (k : Kind) (p : List ℕ) (f : PacketLengths k p) where
   opaque-measured x h o e g i =
       let n : length (drop (before k) (drop 3 p)) ≡ o = simp length-drop (omega arith) in rw (e, g, n)
 
-module _ (p : List ℕ) (f : PacketLengths Command p) (x : Clear) (e : clearOctets x ≡ take 7 (drop 3 p)) (c : Bool) (s : c ≡ cipheredCommand p) where
+module _ (p : List ℕ) (f : PacketLengths Command p) (x : Clear) (e : clearOctets x ≡ take 7 (drop 3 p)) (c : Bool) where
   pub command-opaque : (b : Opaque) → c ≡ true → (b .«header_length» ≡ chl p) × (b .«opaque_length» ≡ length p - 10)
-      → commandFields x (command.Ciphered b) ≡ measured (fieldsOf Command (cipheredCommand p) p)
-  command-opaque b t h = rw (← s, t) (opaque-measured Command p f (clearOctets x) (b .«header_length») (b .«opaque_length») e (h .0) (h .1))
+      → commandFields x (command.Ciphered b) ≡ measured (fieldsOf Command c p)
+  command-opaque b t h = rw t (opaque-measured Command p f (clearOctets x) (b .«header_length») (b .«opaque_length») e (h .0) (h .1))
 
   pub command-plain : (b : PlainCommand) (h : ℕ) → h ≡ chl p → c ≡ false
       → (counterOctets (b .cntr) (b .pcntr ∷ []) ≡ take 6 (drop 10 p)) × ((b .«check_length» ≡ h - 13) × (b .«data_length» ≡ length p - (h + 3)))
-      → commandFields x (command.Plain b) ≡ measured (fieldsOf Command (cipheredCommand p) p)
+      → commandFields x (command.Plain b) ≡ measured (fieldsOf Command c p)
   command-plain b h g t i =
-      rw (← s, t)
+      rw t
       (plain-measured Command p f (clearOctets x) (counterOctets (b .cntr) (b .pcntr ∷ [])) (b .«check_length») (b .«data_length»)
       (runs p 3 7 6 (clearOctets x) (counterOctets (b .cntr) (b .pcntr ∷ [])) e (i .0)) (rw (← g) (i .1 .0)) (rw (← g) (i .1 .1)))
 
@@ -145,14 +176,22 @@ module _ (p : List ℕ) (f : PacketLengths Response p) (x : Tar) (e : tarOctets 
       (runs p 3 3 7 (tarOctets x) (counterOctets (b .cntr) (b .pcntr ∷ b .status ∷ [])) e (i .0)) (rw (← g) (i .1 .0)) (rw (← g) (i .1 .1)))
 
 -- ---- parsing
-module _ (k : Kind) (p : List ℕ) (j : Judged) (e : toldJudged j ≡ readable k p (gives (chl p))) (c : Bool) where
+module _ (k : Kind) (c : Bool) (p : List ℕ) (j : Judged) (e : toldJudged j ≡ readable k c p (gives (chl p))) where
   pub parsed-fields : (h : ℕ) → j ≡ judged.Readable h → (x : Parsed) → x ≡ measured (fieldsOf k c p) → gives x ≡ parsing k c p
   unfolding parsing
-  parsed-fields h t x g = rw (← g) (judged-readable k p j e h t (gives x))
+  parsed-fields h t x g = rw (← g) (judged-readable k c p j e h t (gives x))
 
   pub parsed-refused : (r : Refusal) → j ≡ judged.Refused r → refused (refusalNumber r) ≡ parsing k c p
   unfolding parsing
-  parsed-refused r t = judged-refused k p j e r t (gives (measured (fieldsOf k c p)))
+  parsed-refused r t = judged-refused k c p j e r t (gives (measured (fieldsOf k c p)))
+
+-- a command says itself whether it is ciphered
+module _ (p : List ℕ) (c : Bool) (s : c ≡ cipheredCommand p) (j : Judged) (e : toldJudged j ≡ readable Command c p (gives (chl p))) where
+  pub parsed-command : (h : ℕ) → j ≡ judged.Readable h → (x : Parsed) → x ≡ measured (fieldsOf Command c p) → gives x ≡ parsing Command (cipheredCommand p) p
+  parsed-command h t x g = rw (← s) (parsed-fields Command c p j e h t x g)
+
+  pub refused-command : (r : Refusal) → j ≡ judged.Refused r → refused (refusalNumber r) ≡ parsing Command (cipheredCommand p) p
+  refused-command r t = rw (← s) (parsed-refused Command c p j e r t)
 
 pub ruleset steps = (
   needs,
@@ -163,8 +202,14 @@ pub ruleset steps = (
   short-unformed,
   unformed-refused,
   long-refused,
+  formed-lengths,
   formed-header,
+  check-refused,
   readable-header,
+  bits-command,
+  ciphered-unchecked,
+  has-spi,
+  plain-checked,
   tar-at,
   cntr-at,
   clear-at,
@@ -179,4 +224,6 @@ pub ruleset steps = (
   judged-size,
   parsed-fields,
   parsed-refused,
+  parsed-command,
+  refused-command,
 )

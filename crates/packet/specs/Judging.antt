@@ -12,7 +12,7 @@ use Rattle.types.specs.declared.Refusal.{Refusal}
 use Rattle.packet.specs.declared.read.Judged.{Judged}
 use Rattle.packet.specs.declared.read.Judged.the-variants as judged
 use Rattle.types.specs.Refusals.{Outcome, refused, gives, refuse_when_otherwise_, refusalNumber}
-use Rattle.packet.specs.Packets.{chl, wellFormed, readable}
+use Rattle.packet.specs.Packets.{chl, wellFormed, fieldsOf, againstCheck, readable}
 use Rattle.packet.specs.Laws.{PacketLengths, formed-facts}
 
 -- what the answer to "can this packet be read" says: the header length, or the refusal
@@ -25,41 +25,50 @@ abbrev pub andThen : {A : Type 0} → Outcome ℕ → Outcome A → Outcome A
 andThen (refused n) o = refused n
 andThen (gives h) o = o
 
-pub readable-then : {A : Type 0} (k : Kind) (p : List ℕ) (n : ℕ) (o : Outcome A) → readable k p o ≡ andThen (readable k p (gives n)) o
-readable-then k p n o = go (wellFormed k p) (ltb 2142 (length p))
-  where
-    go : (w l : Bool) → (refuse 9 when not w otherwise refuse 12 when l otherwise o) ≡ andThen (refuse 9 when not w otherwise refuse 12 when l otherwise gives n) o
-    go true true = refl
-    go true false = refl
-    go false l = refl
+module _ (k : Kind) (c : Bool) (p : List ℕ) where
+  pub readable-then : {A : Type 0} (n : ℕ) (o : Outcome A) → readable k c p o ≡ andThen (readable k c p (gives n)) o
+  readable-then n o = go (wellFormed k p) (ltb 2142 (length p)) (againstCheck k (fieldsOf k c p))
+    where
+      go : (w l a : Bool) → (refuse 9 when not w otherwise refuse 12 when l otherwise refuse 15 when a otherwise o)
+          ≡ andThen (refuse 9 when not w otherwise refuse 12 when l otherwise refuse 15 when a otherwise gives n) o
+      go true true a = refl
+      go true false true = refl
+      go true false false = refl
+      go false l a = refl
 
--- what a packet that can be read is
-readable-gives : (k : Kind) (p : List ℕ) (n h : ℕ) → gives h ≡ readable k p (gives n) → (wellFormed k p ≡ true) × (length p ≤ 2142) × (h ≡ n)
-readable-gives k p n h e = go (wellFormed k p) (ltb 2142 (length p)) refl refl e
-  where
-    go : (w l : Bool) → wellFormed k p ≡ w → ltb 2142 (length p) ≡ l → gives h ≡ (refuse 9 when not w otherwise refuse 12 when l otherwise gives n)
-        → (wellFormed k p ≡ true) × (length p ≤ 2142) × (h ≡ n)
-    go true true a b e = let z : _≡_ {A = ℕ} 0 1 = cc in absurd (omega arith)
-    go true false a b e = (a, ltb-false 2142 (length p) b, cc)
-    go false l a b e = let z : _≡_ {A = ℕ} 0 1 = cc in absurd (omega arith)
+  -- what a packet that can be read is
+  pub record Readable : Type 0 where
+    pub formed : wellFormed k p ≡ true
+    pub size : length p ≤ 2142
+    pub checked : againstCheck k (fieldsOf k c p) ≡ false
 
-module _ (k : Kind) (p : List ℕ) (j : Judged) (e : toldJudged j ≡ readable k p (gives (chl p))) where
-  module _ (h : ℕ) (t : j ≡ judged.Readable h) where
-    facts : (wellFormed k p ≡ true) × (length p ≤ 2142) × (h ≡ chl p)
-    facts = readable-gives k p (chl p) h (sym (ap toldJudged t) ∙ e)
+  pub readable-gives : {A : Type 0} (x y : A) → gives y ≡ readable k c p (gives x) → Readable × (y ≡ x)
+  readable-gives x y e = go (wellFormed k p) (ltb 2142 (length p)) (againstCheck k (fieldsOf k c p)) refl refl refl e
+    where
+      go : (w l a : Bool) → wellFormed k p ≡ w → ltb 2142 (length p) ≡ l → againstCheck k (fieldsOf k c p) ≡ a
+          → gives y ≡ (refuse 9 when not w otherwise refuse 12 when l otherwise refuse 15 when a otherwise gives x) → Readable × (y ≡ x)
+      go true true a f g h e = let z : _≡_ {A = ℕ} 0 1 = cc in absurd (omega arith)
+      go true false true f g h e = let z : _≡_ {A = ℕ} 0 1 = cc in absurd (omega arith)
+      go true false false f g h e = (record { formed = f; size = ltb-false 2142 (length p) g; checked = h }, cc)
+      go false l a f g h e = let z : _≡_ {A = ℕ} 0 1 = cc in absurd (omega arith)
 
-    pub judged-formed : PacketLengths k p
-    judged-formed = formed-facts k p (facts .0)
+  module _ (j : Judged) (e : toldJudged j ≡ readable k c p (gives (chl p))) where
+    module _ (h : ℕ) (t : j ≡ judged.Readable h) where
+      facts : Readable × (h ≡ chl p)
+      facts = readable-gives (chl p) h (sym (ap toldJudged t) ∙ e)
 
-    pub judged-header : h ≡ chl p
-    judged-header = facts .2
+      pub judged-formed : PacketLengths k p
+      judged-formed = formed-facts k p (facts .0 .formed)
 
-    pub judged-size : length p ≤ 2142
-    judged-size = facts .1
+      pub judged-header : h ≡ chl p
+      judged-header = facts .1
 
-    pub judged-readable : {A : Type 0} (o : Outcome A) → o ≡ readable k p o
-    judged-readable o = sym (rw (readable-then k p (chl p) o, ← e, t))
+      pub judged-size : length p ≤ 2142
+      judged-size = facts .0 .size
 
-  module _ (r : Refusal) (t : j ≡ judged.Refused r) where
-    pub judged-refused : {A : Type 0} (o : Outcome A) → refused (refusalNumber r) ≡ readable k p o
-    judged-refused o = rw (readable-then k p (chl p) o, ← e, t)
+      pub judged-readable : {A : Type 0} (o : Outcome A) → o ≡ readable k c p o
+      judged-readable o = sym (rw (readable-then (chl p) o, ← e, t))
+
+    module _ (r : Refusal) (t : j ≡ judged.Refused r) where
+      pub judged-refused : {A : Type 0} (o : Outcome A) → refused (refusalNumber r) ≡ readable k c p o
+      judged-refused o = rw (readable-then (chl p) o, ← e, t)

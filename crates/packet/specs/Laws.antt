@@ -15,7 +15,7 @@ use Rattle.octets.specs.Laws.{number-of-pair}
 use Rattle.types.specs.declared.Kind.{Kind}
 use Rattle.types.specs.declared.Kind.the-variants.{Command, Response}
 use Rattle.types.specs.Refusals.{Outcome, gives, refuse_when_otherwise_}
-use Rattle.packet.specs.Packets.{before, least, cpl, chl, wellFormed, Fields, plain, ciphered, fieldsBehind, fieldsOf, cipherBit, cipheredCommand, measured, readable, parsing, shown, securedOf, checkOf, opaqueOf, shownData, shownCheck, shownOpaque, headerLength, behind, packetFrom, packetOf, isCiphered, differ, againstSpi, misfit, building, fixedOctets, withoutCheck, checksumOctets}
+use Rattle.packet.specs.Packets.{before, least, cpl, chl, wellFormed, Fields, plain, ciphered, fieldsBehind, fieldsOf, cipherBit, cipheredCommand, measured, againstBits, againstCheck, readable, parsing, shown, securedOf, checkOf, opaqueOf, shownData, shownCheck, shownOpaque, headerLength, behind, packetFrom, packetOf, isCiphered, differ, againstSpi, misfit, building, fixedOctets, withoutCheck, checksumOctets}
 
 -- ---- the layout
 -- something stands before CNTR; CNTR and PCNTR lie before the check field; what lies there is little
@@ -46,9 +46,10 @@ formed-facts k p e =
     let r′ = leb-true (least k) (chl p) r in
     let h′ = leb-true (chl p + 1) (cpl p) h in record { whole = w′; room = r′; inside = omega arith }
 
--- a well-formed packet that is not too long is refused nothing in reading
-pub readable-formed : {A : Type 0} (k : Kind) (p : List ℕ) (o : Outcome A) → wellFormed k p ≡ true → length p ≤ 2142 → readable k p o ≡ o
-readable-formed k p o w l = rw (w, le-ltb 2142 (length p) l)
+-- a well-formed packet that is not too long, and whose check bits agree with its check field, is refused nothing in reading
+pub readable-formed : {A : Type 0} (k : Kind) (c : Bool) (p : List ℕ) (o : Outcome A) → wellFormed k p ≡ true → length p ≤ 2142
+    → againstCheck k (fieldsOf k c p) ≡ false → readable k c p o ≡ o
+readable-formed k c p o w l a = rw (w, le-ltb 2142 (length p) l, a)
 
 -- ---- building, then reading
 -- the fields before the check field, or those in the clear, are as many as the kind has
@@ -60,23 +61,25 @@ RightLength k (ciphered f h o) = length f ≡ before k
 record Built (k : Kind) (x : Fields) (p : List ℕ) : Type 0 where
   agrees : againstSpi k x ≡ false
   fits : misfit k x ≡ false
+  checked : againstCheck k x ≡ false
   short : length p ≤ 2142
   is : p ≡ packetFrom (headerLength k x) (behind x)
 
 built-is : (k : Kind) (x : Fields) (p : List ℕ) → building k x ≡ gives p → Built k x p
 unfolding building packetOf
-built-is k x p e = go (againstSpi k x) (misfit k x) (ltb 2142 (length (packetOf k x))) refl refl refl e
+built-is k x p e = go (againstSpi k x) (misfit k x) (againstCheck k x) (ltb 2142 (length (packetOf k x))) refl refl refl refl e
   where
-    go : (a m l : Bool) → againstSpi k x ≡ a → misfit k x ≡ m → ltb 2142 (length (packetFrom (headerLength k x) (behind x))) ≡ l
-        → (refuse 10 when a otherwise refuse 11 when m otherwise refuse 12 when l otherwise gives (packetFrom (headerLength k x) (behind x))) ≡ gives p
+    go : (a m b l : Bool) → againstSpi k x ≡ a → misfit k x ≡ m → againstCheck k x ≡ b → ltb 2142 (length (packetFrom (headerLength k x) (behind x))) ≡ l
+        → (refuse 10 when a otherwise refuse 11 when m otherwise refuse 15 when b otherwise refuse 12 when l otherwise gives (packetFrom (headerLength k x) (behind x))) ≡ gives p
         → Built k x p
-    go true m l i j n e = let z : _≡_ {A = ℕ} 0 1 = cc in absurd (omega arith)
-    go false true l i j n e = let z : _≡_ {A = ℕ} 0 1 = cc in absurd (omega arith)
-    go false false true i j n e = let z : _≡_ {A = ℕ} 0 1 = cc in absurd (omega arith)
-    go false false false i j n e =
+    go true m b l i j c n e = let z : _≡_ {A = ℕ} 0 1 = cc in absurd (omega arith)
+    go false true b l i j c n e = let z : _≡_ {A = ℕ} 0 1 = cc in absurd (omega arith)
+    go false false true l i j c n e = let z : _≡_ {A = ℕ} 0 1 = cc in absurd (omega arith)
+    go false false false true i j c n e = let z : _≡_ {A = ℕ} 0 1 = cc in absurd (omega arith)
+    go false false false false i j c n e =
         let s : packetFrom (headerLength k x) (behind x) ≡ p = cc in
         let m = ltb-false 2142 (length (packetFrom (headerLength k x) (behind x))) n in
-        record { agrees = i; fits = j; short = omega (arith, m, ap length s); is = sym s }
+        record { agrees = i; fits = j; checked = c; short = omega (arith, m, ap length s); is = sym s }
 
 -- the header length has room for the fixed fields and lies within what stands behind the lengths
 header-right : (k : Kind) (x : Fields) → RightLength k x → misfit k x ≡ false → (least k ≤ headerLength k x) × (headerLength k x ≤ length (behind x))
@@ -106,6 +109,10 @@ behind-fields k (ciphered f h o) r = rw (take-at f o (before k) r, drop-at f o (
 pub built-fields : (k : Kind) (x : Fields) (p : List ℕ) → building k x ≡ gives p → RightLength k x → fieldsOf k (isCiphered x) p ≡ x
 built-fields k x p e r = let b = built-is k x p e in rw (b .is) (behind-fields k x r)
 
+-- so its check bits agree with its check field
+pub built-checked : (k : Kind) (x : Fields) (p : List ℕ) → building k x ≡ gives p → RightLength k x → againstCheck k (fieldsOf k (isCiphered x) p) ≡ false
+built-checked k x p e r = rw (built-fields k x p e r) (built-is k x p e .checked)
+
 differ-none : (a b : Bool) → differ a b ≡ false → a ≡ b
 differ-none true true e = refl
 differ-none true false e = e
@@ -118,10 +125,11 @@ built-cipher x p e =
 
 -- so parsing answers with these fields, and the parts shown are those given
 module _ (k : Kind) (x : Fields) (p : List ℕ) (e : building k x ≡ gives p) (r : RightLength k x) where
-  read-back : {A : Type 0} (f : Fields → A) → readable k p (gives (f (fieldsOf k (isCiphered x) p))) ≡ gives (f x)
+  read-back : {A : Type 0} (f : Fields → A) → readable k (isCiphered x) p (gives (f (fieldsOf k (isCiphered x) p))) ≡ gives (f x)
   read-back f =
       let w = built-formed k x p e r in
-      rw (built-fields k x p e r) (readable-formed k p (gives (f x)) (w .0) (w .1))
+      readable-formed k (isCiphered x) p (gives (f (fieldsOf k (isCiphered x) p))) (w .0) (w .1) (built-checked k x p e r)
+      ∙ ap (λ (y : Fields). gives (f y)) (built-fields k x p e r)
 
   pub built-parsed : parsing k (isCiphered x) p ≡ gives (measured x)
   unfolding parsing
@@ -156,7 +164,7 @@ built-checksum k f c d p r e =
     let b = built-is k (plain f c d) p e in
     let w = built-formed k (plain f c d) p e r in
     let n : 1 + length (f ++ (c ++ d)) ≡ 1 + (least k + length c + length d) = simp length-append (omega arith) in
-    readable-formed k p (gives (fixedOctets k ++ withoutCheck k p)) (w .0) (w .1)
+    readable-formed k false p (gives (fixedOctets k ++ withoutCheck k p)) (w .0) (w .1) (built-checked k (plain f c d) p e r)
     ∙ rw (b .is, without-check (pairOf (1 + length (f ++ (c ++ d))) .0) (pairOf (1 + length (f ++ (c ++ d))) .1) (least k + length c) (least k) f c d r, n)
 
 -- ---- reading, then building
@@ -205,14 +213,14 @@ against-again Response c p l s = refl
 sized-again : (q p : List ℕ) → q ≡ p → length p ≤ 2142 → (refuse 12 when ltb 2142 (length q) otherwise gives q) ≡ gives p
 sized-again q p e l = rw (e, le-ltb 2142 (length p) l)
 
--- reading a well-formed packet and building from its fields gives the packet, octet for octet
-pub read-built : (k : Kind) (c : Bool) (p : List ℕ) → wellFormed k p ≡ true → length p ≤ 2142 → ((i : ℕ) → getD p i 0 < 256)
-    → (k ≡ Command → c ≡ cipheredCommand p) → building k (fieldsOf k c p) ≡ gives p
+-- reading a packet that is refused nothing and building from its fields gives the packet, octet for octet
+pub read-built : (k : Kind) (c : Bool) (p : List ℕ) → wellFormed k p ≡ true → length p ≤ 2142 → againstCheck k (fieldsOf k c p) ≡ false
+    → ((i : ℕ) → getD p i 0 < 256) → (k ≡ Command → c ≡ cipheredCommand p) → building k (fieldsOf k c p) ≡ gives p
 unfolding building packetOf
-read-built k c p w l o s =
+read-built k c p w l a o s =
     let f = formed-facts k p w in
     let m : chl p ≤ length (drop 3 p) = rw length-drop (omega arith) in
     let b : chl p ≤ 255 = omega (arith, o 2) in
     let q : packetOf k (fieldsOf k c p) ≡ p =
     rw (header-again k c (chl p) (drop 3 p) (f .room) m, behind-again k c (chl p) (drop 3 p) (f .room)) (packet-again k p f (o 1)) in
-    rw (against-again k c p (f .room) s, misfit-again k c (chl p) (drop 3 p) (f .room) b m) (sized-again (packetOf k (fieldsOf k c p)) p q l)
+    rw (against-again k c p (f .room) s, misfit-again k c (chl p) (drop 3 p) (f .room) b m, a) (sized-again (packetOf k (fieldsOf k c p)) p q l)

@@ -80,7 +80,22 @@ cipherBit spi = eqb (spi / 4 % 2) 1
 abbrev pub cipheredCommand : List ℕ → Bool
 cipheredCommand p = cipherBit (getD p 3 0)
 
--- ---- parsing: 9, 12
+abbrev pub differ : Bool → Bool → Bool
+differ true b = not b
+differ false b = b
+
+-- 15: "a plain command where the low two bits of SPI's first octet are 00 and the check field is not empty, or not 00 and it is empty" (02,
+-- [3]). It is said of that octet and of how many octets the check field has; a response has no SPI.
+abbrev pub againstBits : Kind → (spi check : ℕ) → Bool
+againstBits Command spi check = differ (eqb (spi % 4) 0) (eqb check 0)
+againstBits Response spi check = false
+
+-- The one test of a plain command's fields. SPI's first octet is the first of the fixed fields; of a ciphered body no check field is seen.
+abbrev pub againstCheck : Kind → Fields → Bool
+againstCheck k (plain f c d) = againstBits k (getD f 0 0) (length c)
+againstCheck k (ciphered f h o) = false
+
+-- ---- parsing: 9, 12, 15
 -- A parsed packet has its parts by their lengths; showing gives the parts themselves.
 pub data Parsed : Type 0 where
   plainParsed : (fixed : List ℕ) (check secured : ℕ) → Parsed
@@ -90,14 +105,15 @@ abbrev pub measured : Fields → Parsed
 measured (plain f c d) = plainParsed f (length c) (length d)
 measured (ciphered f h o) = cipheredParsed f h (length o)
 
-abbrev pub readable : {A : Type 0} → Kind → List ℕ → Outcome A → Outcome A
-readable k p o =
+abbrev pub readable : {A : Type 0} → Kind → Bool → List ℕ → Outcome A → Outcome A
+readable k c p o =
     refuse 9 when not (wellFormed k p) otherwise
     refuse 12 when ltb mostOctets (length p) otherwise
+    refuse 15 when againstCheck k (fieldsOf k c p) otherwise
     o
 
 unfoldable pub parsing : Kind → Bool → List ℕ → Outcome Parsed
-parsing k c p = readable k p (gives (measured (fieldsOf k c p)))
+parsing k c p = readable k c p (gives (measured (fieldsOf k c p)))
 
 -- ---- showing
 -- "shown as the part of the caller's packet that holds it, likewise the check field, and the opaque octets of a ciphered one; of a packet
@@ -119,15 +135,15 @@ opaqueOf (plain f c d) = []
 opaqueOf (ciphered f h o) = o
 
 unfoldable pub shownData : Kind → Bool → List ℕ → List ℕ
-shownData k c p = shown (readable k p (gives (securedOf (fieldsOf k c p))))
+shownData k c p = shown (readable k c p (gives (securedOf (fieldsOf k c p))))
 
 unfoldable pub shownCheck : Kind → Bool → List ℕ → List ℕ
-shownCheck k c p = shown (readable k p (gives (checkOf (fieldsOf k c p))))
+shownCheck k c p = shown (readable k c p (gives (checkOf (fieldsOf k c p))))
 
 unfoldable pub shownOpaque : Kind → Bool → List ℕ → List ℕ
-shownOpaque k c p = shown (readable k p (gives (opaqueOf (fieldsOf k c p))))
+shownOpaque k c p = shown (readable k c p (gives (opaqueOf (fieldsOf k c p))))
 
--- ---- building: 1, 10 (commands only), 11, 12
+-- ---- building: 1, 10 (commands only), 11, 15, 12
 -- what the fields say of the header length, and the octets behind the two lengths
 abbrev pub headerLength : Kind → Fields → ℕ
 headerLength k (plain f c d) = least k + length c
@@ -149,10 +165,6 @@ isCiphered (plain f c d) = false
 isCiphered (ciphered f h o) = true
 
 -- 10: "body plain or ciphered against SPI", whose first octet is the first behind the lengths of a command
-abbrev pub differ : Bool → Bool → Bool
-differ true b = not b
-differ false b = b
-
 abbrev pub againstSpi : Kind → Fields → Bool
 againstSpi Command x = differ (cipherBit (getD (behind x) 0 0)) (isCiphered x)
 againstSpi Response x = false
@@ -167,6 +179,7 @@ unfoldable pub building : Kind → Fields → Outcome (List ℕ)
 building k x =
     refuse 10 when againstSpi k x otherwise
     refuse 11 when misfit k x otherwise
+    refuse 15 when againstCheck k x otherwise
     refuse 12 when ltb mostOctets (length (packetOf k x)) otherwise
     gives (packetOf k x)
 
@@ -177,7 +190,7 @@ into size o buffer = writes (refuse 1 when not (eqb (length buffer) size) otherw
 unfoldable pub built : Kind → Fields → List ℕ → Lent
 built k x buffer = into mostOctets (building k x) buffer
 
--- ---- checksum octets: 1, 9, 12, 10
+-- ---- checksum octets: 1, 9, 12, 15, 10
 -- "For a response the fixed octets 02 71 00 stand before the packet (000, 4.4; 001, 4.5)."
 abbrev pub fixedOctets : Kind → List ℕ
 fixedOctets Command = []
@@ -189,7 +202,7 @@ withoutCheck k p = take (3 + least k) p ++ drop (3 + chl p) p
 
 unfoldable pub checksumOctets : Kind → Bool → List ℕ → Outcome (List ℕ)
 checksumOctets k c p =
-    readable k p
+    readable k c p
     (refuse 10 when c otherwise
     gives (fixedOctets k ++ withoutCheck k p))
 

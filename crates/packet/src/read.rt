@@ -21,7 +21,7 @@ ghost use mathlib.Core.List.{[], _∷_};
 ghost use Prim.Native.Nat.{_+_, _-_, _≤_};
 ghost use lib.ListN.{length, take, drop};
 ghost use Rattle.types.specs.Refusals.{gives};
-ghost use Rattle.packet.specs.Packets.{before, least, chl, formedBy, wellFormed, cipheredCommand, fieldsOf, measured, readable, parsing};
+ghost use Rattle.packet.specs.Packets.{before, least, chl, formedBy, wellFormed, cipheredCommand, fieldsOf, measured, againstCheck, readable, parsing};
 ghost use Rattle.packet.specs.Told.{tarOctets, clearOctets, counterOctets, commandFields, responseFields, toldCommand, toldResponse};
 ghost use Rattle.packet.specs.Laws.{PacketLengths};
 ghost use Rattle.packet.specs.Judging.{toldJudged};
@@ -72,9 +72,21 @@ fn header_of(packet: &[u8]) -> usize
     octets::wide(packet[2])
 }
 
-// Whether a packet can be read: 9, then 12.
-pub fn judge(kind: Kind, packet: &[u8]) -> Judged
-    ensures { λ r. ⌜ toldJudged r ≡ readable kind (now (packet .entry)) (gives (chl (now (packet .entry)))) ⌝ }
+// Whether the check bits of a plain command are against its check field.
+fn against_check(kind: Kind, ciphered: bool, packet: &[u8], header: usize) -> bool
+    requires { ⌜ PacketLengths kind (now packet) ⌝ }
+    requires { ⌜ header ≡ chl (now packet) ⌝ }
+    ensures { λ r. ⌜ r ≡ againstCheck kind (fieldsOf kind ciphered (now (packet .entry))) ⌝ }
+{
+    if ciphered {
+        return false;
+    }
+    layout::against_bits(kind, packet[3], check_length(kind, header))
+}
+
+// Whether a packet can be read, whose body is ciphered or not: 9, then 12, then 15.
+pub fn judge(kind: Kind, ciphered: bool, packet: &[u8]) -> Judged
+    ensures { λ r. ⌜ toldJudged r ≡ readable kind ciphered (now (packet .entry)) (gives (chl (now (packet .entry)))) ⌝ }
 {
     if !well_formed(kind, packet) {
         return Judged::Refused(Refusal::MalformedPacket);
@@ -82,7 +94,11 @@ pub fn judge(kind: Kind, packet: &[u8]) -> Judged
     if PACKET_OCTETS < packet.len() {
         return Judged::Refused(Refusal::PacketTooLong);
     }
-    Judged::Readable(header_of(packet))
+    let header = header_of(packet);
+    if against_check(kind, ciphered, packet, header) {
+        return Judged::Refused(Refusal::CheckMismatch);
+    }
+    Judged::Readable(header)
 }
 
 // ---- fields
@@ -185,14 +201,14 @@ fn plain_response(packet: &[u8], header: usize) -> PlainResponse
 }
 
 // ---- parsing
-// The fields of a well-formed command.
-fn command(packet: &[u8], header: usize) -> Command
+// The fields of a well-formed command, whose body is ciphered or not.
+fn command(packet: &[u8], ciphered: bool, header: usize) -> Command
     requires { ⌜ PacketLengths Kind.Command (now packet) ⌝ }
     requires { ⌜ header ≡ chl (now packet) ⌝ }
-    ensures { λ r. ⌜ commandFields (r .clear) (r .body) ≡ measured (fieldsOf Kind.Command (cipheredCommand (now (packet .entry))) (now (packet .entry))) ⌝ }
+    ensures { λ r. ⌜ commandFields (r .clear) (r .body) ≡ measured (fieldsOf Kind.Command ciphered (now (packet .entry))) ⌝ }
 {
     let clear = clear_of(packet);
-    if ciphered_command(packet) {
+    if ciphered {
         let body = CommandBody::Ciphered(opaque_body(Kind::Command, packet));
         Command {
             clear: clear,
@@ -229,13 +245,14 @@ fn response(packet: &[u8], ciphered: bool, header: usize) -> Response
     }
 }
 
-// Parses a command: its fields, or refusal 9 or 12.
+// Parses a command: its fields, or refusal 9, 12 or 15.
 pub fn parse_command(packet: &[u8]) -> ParsedCommand
     ensures { λ r. ⌜ toldCommand r ≡ parsing Kind.Command (cipheredCommand (now (packet .entry))) (now (packet .entry)) ⌝ }
 {
-    let judged = judge(Kind::Command, packet);
+    let ciphered = ciphered_command(packet);
+    let judged = judge(Kind::Command, ciphered, packet);
     match judged {
-        Judged::Readable(header) => ParsedCommand::Fields(command(packet, header)),
+        Judged::Readable(header) => ParsedCommand::Fields(command(packet, ciphered, header)),
         Judged::Refused(refusal) => ParsedCommand::Refused(refusal),
     }
 }
@@ -244,7 +261,7 @@ pub fn parse_command(packet: &[u8]) -> ParsedCommand
 pub fn parse_response(packet: &[u8], ciphered: bool) -> ParsedResponse
     ensures { λ r. ⌜ toldResponse r ≡ parsing Kind.Response ciphered (now (packet .entry)) ⌝ }
 {
-    let judged = judge(Kind::Response, packet);
+    let judged = judge(Kind::Response, ciphered, packet);
     match judged {
         Judged::Readable(header) => ParsedResponse::Fields(response(packet, ciphered, header)),
         Judged::Refused(refusal) => ParsedResponse::Refused(refusal),

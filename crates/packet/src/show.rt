@@ -35,7 +35,7 @@ fn data_of(kind: Kind, ciphered: bool, packet: &[u8]) -> &[u8]
     if ciphered {
         return &packet[0..0];
     }
-    let judged = read::judge(kind, packet);
+    let judged = read::judge(kind, ciphered, packet);
     let Judged::Readable(header) = judged else {
         return &packet[0..0];
     };
@@ -49,7 +49,7 @@ fn check_of(kind: Kind, ciphered: bool, packet: &[u8]) -> &[u8]
     if ciphered {
         return &packet[0..0];
     }
-    let judged = read::judge(kind, packet);
+    let judged = read::judge(kind, ciphered, packet);
     let Judged::Readable(header) = judged else {
         return &packet[0..0];
     };
@@ -63,7 +63,7 @@ fn opaque_of(kind: Kind, ciphered: bool, packet: &[u8]) -> &[u8]
     if !ciphered {
         return &packet[0..0];
     }
-    let judged = read::judge(kind, packet);
+    let judged = read::judge(kind, ciphered, packet);
     let Judged::Readable(_) = judged else {
         return &packet[0..0];
     };

@@ -4,11 +4,11 @@ use mathlib.Core.Bool.{Bool, true, false}
 use mathlib.Core.List.{List, _++_}
 use lib.ListN.{length, drop}
 use Rattle.types.specs.declared.Refusal.{Refusal}
-use Rattle.types.specs.declared.Refusal.the-variants.{BufferOrRecord, InputLength, HeaderOverrun, HeaderElement, WrongIdentifier, TooManyParts, OtherTotal, OtherOctets, MalformedPacket, CipherMismatch, PacketHeader, PacketTooLong, ReferenceWidth, PartNumber}
+use Rattle.types.specs.declared.Refusal.the-variants.{BufferOrRecord, InputLength, HeaderOverrun, HeaderElement, WrongIdentifier, TooManyParts, OtherTotal, OtherOctets, MalformedPacket, CipherMismatch, PacketHeader, PacketTooLong, ReferenceWidth, PartNumber, CheckMismatch}
 use Rattle.types.specs.declared.Written.{Written}
 use Rattle.types.specs.declared.Written.the-variants.{Octets, Refused}
 
--- the number that the table of 01 gives to each
+-- the number that the table of 01 gives to each, and 02 to those from 15 on
 abbrev pub refusalNumber : Refusal → ℕ
 refusalNumber BufferOrRecord = 1
 refusalNumber InputLength = 2
@@ -24,6 +24,7 @@ refusalNumber PacketHeader = 11
 refusalNumber PacketTooLong = 12
 refusalNumber ReferenceWidth = 13
 refusalNumber PartNumber = 14
+refusalNumber CheckMismatch = 15
 
 -- what a call comes to: a refusal by its number, or what it gives
 pub data Outcome (A : Type 0) : Type 0 where

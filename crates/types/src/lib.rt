@@ -40,6 +40,9 @@ pub enum Refusal {
     ReferenceWidth,
     // 14: a part or page of number 0, or of a number above the total. Writing.
     PartNumber,
+    // 15: the check bits of a plain command's SPI say that nothing is checked and there is a check field, or the other way round. Parsing,
+    // building, checksum octets: commands.
+    CheckMismatch,
 }
 
 impl Refusal {
@@ -62,6 +65,7 @@ impl Refusal {
             Refusal::PacketTooLong => 12,
             Refusal::ReferenceWidth => 13,
             Refusal::PartNumber => 14,
+            Refusal::CheckMismatch => 15,
         }
     }
 }
