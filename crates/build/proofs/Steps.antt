@@ -18,7 +18,7 @@ use Rattle.types.specs.declared.Refusal.{Refusal}
 use Rattle.build.specs.declared.Ruling.{Ruling}
 use Rattle.build.specs.declared.Ruling.the-variants as ruling
 use Rattle.types.specs.Refusals.{Outcome, refused, gives, refuse_when_otherwise_, refusalNumber, Lent, lent, writes}
-use Rattle.packet.specs.Packets.{before, least, Fields, plain, ciphered, cipherBit, differ, behind, packetFrom, packetOf, isCiphered, againstSpi, misfit, building, built}
+use Rattle.packet.specs.Packets.{before, least, Fields, plain, ciphered, cipherBit, differ, behind, packetFrom, packetOf, isCiphered, againstSpi, againstBits, againstCheck, misfit, building, built}
 use Rattle.packet.specs.Laws.{before-some, before-least, least-most}
 use Rattle.octets.specs.Tests.{neither}
 use Rattle.build.specs.Within.{againstOctet, outside, ruled, toldRuling, tried}
@@ -84,81 +84,87 @@ module _ (d h f b : List ℕ) (header : ℕ) (room : 3 ≤ length h) where
       rw (i, q, placed-start d (packetFrom header rest), size-is)
 
 -- ---- the tests' order
-module _ (k : Kind) (first buffer : ℕ) (c m l : Bool) where
-  pub rule-buffer : (buffer ≡ 2142 → ⊥) → (o : Outcome ℕ) → refused 1 ≡ ruled buffer (againstOctet k first c) m l o
+module _ (k : Kind) (first buffer : ℕ) (c m u l : Bool) where
+  pub rule-buffer : (buffer ≡ 2142 → ⊥) → (o : Outcome ℕ) → refused 1 ≡ ruled buffer (againstOctet k first c) m u l o
   rule-buffer n o = rw (ne-eqb buffer 2142 n)
 
   module _ (e : buffer ≡ 2142) (a : Bool) (f : a ≡ againstOctet k first c) where
-    pub rule-against : a ≡ true → (o : Outcome ℕ) → refused 10 ≡ ruled buffer (againstOctet k first c) m l o
+    pub rule-against : a ≡ true → (o : Outcome ℕ) → refused 10 ≡ ruled buffer (againstOctet k first c) m u l o
     rule-against t o = rw (eq-eqb buffer 2142 e, ← f, t)
 
     module _ (t : a ≡ false) where
-      pub rule-misfit : m ≡ true → (o : Outcome ℕ) → refused 11 ≡ ruled buffer (againstOctet k first c) m l o
+      pub rule-misfit : m ≡ true → (o : Outcome ℕ) → refused 11 ≡ ruled buffer (againstOctet k first c) m u l o
       rule-misfit s o = rw (eq-eqb buffer 2142 e, ← f, t, s)
 
       module _ (s : m ≡ false) where
-        pub rule-long : l ≡ true → (o : Outcome ℕ) → refused 12 ≡ ruled buffer (againstOctet k first c) m l o
-        rule-long n o = rw (eq-eqb buffer 2142 e, ← f, t, s, n)
+        pub rule-unchecked : u ≡ true → (o : Outcome ℕ) → refused 15 ≡ ruled buffer (againstOctet k first c) m u l o
+        rule-unchecked v o = rw (eq-eqb buffer 2142 e, ← f, t, s, v)
 
-        pub rule-none : l ≡ false → (o : Outcome ℕ) → o ≡ ruled buffer (againstOctet k first c) m l o
-        rule-none n o = rw (eq-eqb buffer 2142 e, ← f, t, s, n)
+        module _ (v : u ≡ false) where
+          pub rule-long : l ≡ true → (o : Outcome ℕ) → refused 12 ≡ ruled buffer (againstOctet k first c) m u l o
+          rule-long n o = rw (eq-eqb buffer 2142 e, ← f, t, s, v, n)
+
+          pub rule-none : l ≡ false → (o : Outcome ℕ) → o ≡ ruled buffer (againstOctet k first c) m u l o
+          rule-none n o = rw (eq-eqb buffer 2142 e, ← f, t, s, v, n)
 
 -- ---- either body
-ruled-then : {A : Type 0} (n : ℕ) (a m l : Bool) (o : Outcome A) → ruled n a m l o ≡ andThen (ruled n a m l (gives 0)) o
-ruled-then n a m l o = go (eqb n 2142) a m l
+ruled-then : {A : Type 0} (n : ℕ) (a m u l : Bool) (o : Outcome A) → ruled n a m u l o ≡ andThen (ruled n a m u l (gives 0)) o
+ruled-then n a m u l o = go (eqb n 2142) a m u l
   where
-    go : (e a m l : Bool)
-        → (refuse 1 when not e otherwise refuse 10 when a otherwise refuse 11 when m otherwise refuse 12 when l otherwise o)
-        ≡ andThen (refuse 1 when not e otherwise refuse 10 when a otherwise refuse 11 when m otherwise refuse 12 when l otherwise gives 0) o
-    go false a m l = refl
-    go true true m l = refl
-    go true false true l = refl
-    go true false false true = refl
-    go true false false false = refl
+    go : (e a m u l : Bool)
+        → (refuse 1 when not e otherwise refuse 10 when a otherwise refuse 11 when m otherwise refuse 15 when u otherwise refuse 12 when l otherwise o)
+        ≡ andThen (refuse 1 when not e otherwise refuse 10 when a otherwise refuse 11 when m otherwise refuse 15 when u otherwise refuse 12 when l otherwise gives 0) o
+    go false a m u l = refl
+    go true true m u l = refl
+    go true false true u l = refl
+    go true false false true l = refl
+    go true false false false true = refl
+    go true false false false false = refl
 
-allowed : (n : ℕ) (a m l : Bool) → _≡_ {A = Outcome ℕ} (gives 0) (ruled n a m l (gives 0)) → (n ≡ 2142) × (l ≡ false)
-allowed n a m l e = go (eqb n 2142) a m l refl refl e
+allowed : (n : ℕ) (a m u l : Bool) → _≡_ {A = Outcome ℕ} (gives 0) (ruled n a m u l (gives 0)) → (n ≡ 2142) × (l ≡ false)
+allowed n a m u l e = go (eqb n 2142) a m u l refl refl e
   where
-    go : (b a m l′ : Bool) → eqb n 2142 ≡ b → l ≡ l′
-        → _≡_ {A = Outcome ℕ} (gives 0) (refuse 1 when not b otherwise refuse 10 when a otherwise refuse 11 when m otherwise refuse 12 when l′ otherwise gives 0)
+    go : (b a m u l′ : Bool) → eqb n 2142 ≡ b → l ≡ l′
+        → _≡_ {A = Outcome ℕ} (gives 0) (refuse 1 when not b otherwise refuse 10 when a otherwise refuse 11 when m otherwise refuse 15 when u otherwise refuse 12 when l′ otherwise gives 0)
         → (n ≡ 2142) × (l ≡ false)
-    go false a m l′ p q e = let z : _≡_ {A = ℕ} 0 1 = cc in absurd (omega arith)
-    go true true m l′ p q e = let z : _≡_ {A = ℕ} 0 1 = cc in absurd (omega arith)
-    go true false true l′ p q e = let z : _≡_ {A = ℕ} 0 1 = cc in absurd (omega arith)
-    go true false false true p q e = let z : _≡_ {A = ℕ} 0 1 = cc in absurd (omega arith)
-    go true false false false p q e = (eqb-true n 2142 p, q)
+    go false a m u l′ p q e = let z : _≡_ {A = ℕ} 0 1 = cc in absurd (omega arith)
+    go true true m u l′ p q e = let z : _≡_ {A = ℕ} 0 1 = cc in absurd (omega arith)
+    go true false true u l′ p q e = let z : _≡_ {A = ℕ} 0 1 = cc in absurd (omega arith)
+    go true false false true l′ p q e = let z : _≡_ {A = ℕ} 0 1 = cc in absurd (omega arith)
+    go true false false false true p q e = let z : _≡_ {A = ℕ} 0 1 = cc in absurd (omega arith)
+    go true false false false false p q e = (eqb-true n 2142 p, q)
 
-module _ (d h f b : List ℕ) (a m l : Bool) (s : l ≡ ltb 2142 (length h + (length f + length b))) (j : Ruling)
-    (e : toldRuling j ≡ ruled (length d) a m l (gives 0)) where
+module _ (d h f b : List ℕ) (a m u l : Bool) (s : l ≡ ltb 2142 (length h + (length f + length b))) (j : Ruling)
+    (e : toldRuling j ≡ ruled (length d) a m u l (gives 0)) where
   module _ (t : j ≡ ruling.Allowed) where
     pub allowed-buffer : length d ≡ 2142
-    allowed-buffer = allowed (length d) a m l (sym (ap toldRuling t) ∙ e) .0
+    allowed-buffer = allowed (length d) a m u l (sym (ap toldRuling t) ∙ e) .0
 
     pub allowed-size : length h + (length f + length b) ≤ 2142
     allowed-size =
-        ltb-false 2142 (length h + (length f + length b)) (sym s ∙ allowed (length d) a m l (sym (ap toldRuling t) ∙ e) .1)
+        ltb-false 2142 (length h + (length f + length b)) (sym s ∙ allowed (length d) a m u l (sym (ap toldRuling t) ∙ e) .1)
 
   module _ (room : 4 ≤ length h) (n : ℕ) where
     abbrev the-packet : List ℕ
     the-packet = packetFrom n (drop 3 h ++ (f ++ b))
 
-    as-ruled : tried a m the-packet d ≡ writes (andThen (toldRuling j) (gives the-packet)) d
+    as-ruled : tried a m u the-packet d ≡ writes (andThen (toldRuling j) (gives the-packet)) d
     as-ruled =
         let q : ltb 2142 (length the-packet) ≡ l = rw (size-is d h f b n (omega arith)) (sym s) in
-        rw (ruled-then (length d) a m (ltb 2142 (length the-packet)) (gives the-packet), q, e)
+        rw (ruled-then (length d) a m u (ltb 2142 (length the-packet)) (gives the-packet), q, e)
 
-    pub tried-refused : (r : Refusal) → j ≡ ruling.Refused r → lent (refused (refusalNumber r)) d ≡ tried a m the-packet d
+    pub tried-refused : (r : Refusal) → j ≡ ruling.Refused r → lent (refused (refusalNumber r)) d ≡ tried a m u the-packet d
     tried-refused r t = sym (as-ruled ∙ rw t)
 
-    pub tried-written : j ≡ ruling.Allowed → (w : Lent) → w ≡ writes (gives the-packet) d → w ≡ tried a m the-packet d
+    pub tried-written : j ≡ ruling.Allowed → (w : Lent) → w ≡ writes (gives the-packet) d → w ≡ tried a m u the-packet d
     tried-written t w g = g ∙ sym (as-ruled ∙ rw t)
 
 -- ---- the head of a kind, and what is built of it
-same-built : (k : Kind) (x : Fields) (d q : List ℕ) (a m : Bool) → againstSpi k x ≡ a → misfit k x ≡ m → (m ≡ false → q ≡ packetOf k x)
-    → tried a m q d ≡ built k x d
+same-built : (k : Kind) (x : Fields) (d q : List ℕ) (a m u : Bool) → againstSpi k x ≡ a → misfit k x ≡ m → againstCheck k x ≡ u
+    → (m ≡ false → q ≡ packetOf k x) → tried a m u q d ≡ built k x d
 unfolding built building
-same-built k x d q a true e f g = rw (e, f)
-same-built k x d q a false e f g = rw (e, f, g refl)
+same-built k x d q a true u e f i g = rw (e, f)
+same-built k x d q a false u e f i g = rw (e, f, i, g refl)
 
 -- the first octet behind the lengths stands at the head's place 3
 first-octet : (h r : List ℕ) → 3 < length h → getD (drop 3 h ++ r) 0 0 ≡ getD h 3 0
@@ -189,13 +195,14 @@ module _ (k : Kind) (h d : List ℕ) (w : Lent) where
     whole c s l e i = let n : (l + length c) % 256 ≡ least k + length c = omega (arith, least-most k) in rw n
 
     pub plain-built : (c s : List ℕ) (l : ℕ) → l ≡ least k
-        → w ≡ tried (againstOctet k (getD h 3 0) false) (ltb (255 - l) (length c)) (packetFrom ((l + length c) % 256) (drop 3 h ++ (c ++ s))) d
+        → (u : Bool) → u ≡ againstBits k (getD h 3 0) (length c)
+        → w ≡ tried (againstOctet k (getD h 3 0) false) (ltb (255 - l) (length c)) u (packetFrom ((l + length c) % 256) (drop 3 h ++ (c ++ s))) d
         → w ≡ built k (plain (drop 3 h) c s) d
-    plain-built c s l e g =
+    plain-built c s l e u i g =
         let x = plain (drop 3 h) c s in
         let q = packetFrom ((l + length c) % 256) (drop 3 h ++ (c ++ s)) in
-        g ∙ same-built k x d q (againstOctet k (getD h 3 0) false) (ltb (255 - l) (length c)) (against-is k x ∙ rw (first-octet h (c ++ s) (plain-room k h m))) (rw e)
-        λ t. whole c s l e (ltb-false (255 - l) (length c) t)
+        g ∙ same-built k x d q (againstOctet k (getD h 3 0) false) (ltb (255 - l) (length c)) u (against-is k x ∙ rw (first-octet h (c ++ s) (plain-room k h m))) (rw e)
+        (rw getD-drop (sym i)) λ t. whole c s l e (ltb-false (255 - l) (length c) t)
 
   module _ (m : length h ≡ 3 + before k) where
     opaque : (n : ℕ) (o : List ℕ) (f : Bool) → f ≡ outside k n (length o) → f ≡ false
@@ -207,11 +214,11 @@ module _ (k : Kind) (h d : List ℕ) (w : Lent) where
         let s : n % 256 ≡ n = omega arith in rw (s, append-nil)
 
     pub ciphered-built : (n : ℕ) (o : List ℕ) (f : Bool) → f ≡ outside k n (length o)
-        → w ≡ tried (againstOctet k (getD h 3 0) true) f (packetFrom (n % 256) (drop 3 h ++ (o ++ []))) d → w ≡ built k (ciphered (drop 3 h) n o) d
+        → w ≡ tried (againstOctet k (getD h 3 0) true) f false (packetFrom (n % 256) (drop 3 h ++ (o ++ []))) d → w ≡ built k (ciphered (drop 3 h) n o) d
     ciphered-built n o f e g =
         let x = ciphered (drop 3 h) n o in
         let q = packetFrom (n % 256) (drop 3 h ++ (o ++ [])) in
-        g ∙ same-built k x d q (againstOctet k (getD h 3 0) true) f (against-is k x ∙ rw (first-octet h o (ciphered-room k h m))) (sym e) λ t. opaque n o f e t
+        g ∙ same-built k x d q (againstOctet k (getD h 3 0) true) f false (against-is k x ∙ rw (first-octet h o (ciphered-room k h m))) (sym e) refl λ t. opaque n o f e t
 
 pub ruleset steps = (
   needs,
@@ -226,6 +233,7 @@ pub ruleset steps = (
   rule-buffer,
   rule-against,
   rule-misfit,
+  rule-unchecked,
   rule-long,
   rule-none,
   allowed-buffer,

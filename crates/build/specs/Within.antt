@@ -16,12 +16,13 @@ abbrev pub againstOctet : Kind → ℕ → Bool → Bool
 againstOctet Command first c = differ (cipherBit first) c
 againstOctet Response first c = false
 
--- the refusals of a building in their order, of the four tests
-abbrev pub ruled : {A : Type 0} → ℕ → Bool → Bool → Bool → Outcome A → Outcome A
-ruled buffer against misfit over o =
+-- the refusals of a building in their order, of the five tests
+abbrev pub ruled : {A : Type 0} → ℕ → Bool → Bool → Bool → Bool → Outcome A → Outcome A
+ruled buffer against misfit unchecked over o =
     refuse 1 when not (eqb buffer mostOctets) otherwise
     refuse 10 when against otherwise
     refuse 11 when misfit otherwise
+    refuse 15 when unchecked otherwise
     refuse 12 when over otherwise
     o
 
@@ -29,9 +30,9 @@ abbrev pub toldRuling : Ruling → Outcome ℕ
 toldRuling ruling.Allowed = gives 0
 toldRuling (ruling.Refused r) = refused (refusalNumber r)
 
--- what building the packet p comes to, of two of the tests
-abbrev pub tried : Bool → Bool → List ℕ → List ℕ → Lent
-tried against misfit p buffer = writes (ruled (length buffer) against misfit (ltb mostOctets (length p)) (gives p)) buffer
+-- what building the packet p comes to, of three of the tests
+abbrev pub tried : Bool → Bool → Bool → List ℕ → List ℕ → Lent
+tried against misfit unchecked p buffer = writes (ruled (length buffer) against misfit unchecked (ltb mostOctets (length p)) (gives p)) buffer
 
 -- 11 of a ciphered body, of the header length and the number of opaque octets
 abbrev pub outside : Kind → ℕ → ℕ → Bool

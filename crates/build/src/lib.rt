@@ -15,23 +15,16 @@ ghost use lib.ListN.{length, getD, drop};
 ghost use lib.Dec.{ltb};
 ghost use Rattle.octets.specs.Octets.{pairOf, placed};
 ghost use Rattle.types.specs.Refusals.{gives, lent, writes, toldWritten};
-ghost use Rattle.packet.specs.Packets.{before, least, plain, ciphered, differ, mostOctets, packetFrom, built};
+ghost use Rattle.packet.specs.Packets.{before, least, plain, ciphered, againstBits, mostOctets, packetFrom, built};
 ghost use Rattle.packet.specs.Told.{tarOctets, clearOctets, commandFixed, responseFixed};
 ghost use Rattle.build.specs.Within.{againstOctet, outside, toldRuling, ruled, tried};
-
-// Whether just one of two holds.
-fn differ(a: bool, b: bool) -> bool
-    ensures { λ r. ⌜ r ≡ differ a b ⌝ }
-{
-    if a { !b } else { b }
-}
 
 // Whether a body is plain or ciphered against SPI, whose first octet is the first behind the lengths of a command.
 fn against(kind: Kind, first: u8, ciphered: bool) -> bool
     ensures { λ r. ⌜ r ≡ againstOctet kind first ciphered ⌝ }
 {
     match kind {
-        Kind::Command => differ(layout::cipher_bit(first), ciphered),
+        Kind::Command => layout::differ(layout::cipher_bit(first), ciphered),
         Kind::Response => false,
     }
 }
@@ -64,9 +57,18 @@ enum Ruling {
     Refused(Refusal),
 }
 
-// The refusals of building in their order: the buffer, the body against SPI, the header length, the packet's length.
-fn rule(kind: Kind, buffer: usize, first: u8, ciphered: bool, misfit: bool, over: bool) -> Ruling
-    ensures { λ r. ⌜ toldRuling r ≡ ruled buffer (againstOctet kind first ciphered) misfit over (gives 0) ⌝ }
+// The refusals of building in their order: the buffer, the body against SPI, the header length, the check field against SPI, the packet's
+// length.
+fn rule(
+    kind: Kind,
+    buffer: usize,
+    first: u8,
+    ciphered: bool,
+    misfit: bool,
+    unchecked: bool,
+    over: bool,
+) -> Ruling
+    ensures { λ r. ⌜ toldRuling r ≡ ruled buffer (againstOctet kind first ciphered) misfit unchecked over (gives 0) ⌝ }
 {
     if buffer != PACKET_OCTETS {
         return Ruling::Refused(Refusal::BufferOrRecord);
@@ -76,6 +78,9 @@ fn rule(kind: Kind, buffer: usize, first: u8, ciphered: bool, misfit: bool, over
     }
     if misfit {
         return Ruling::Refused(Refusal::PacketHeader);
+    }
+    if unchecked {
+        return Ruling::Refused(Refusal::CheckMismatch);
     }
     if over {
         return Ruling::Refused(Refusal::PacketTooLong);
@@ -121,6 +126,7 @@ fn build(
     kind: Kind,
     ciphered: bool,
     misfit: bool,
+    unchecked: bool,
     header: usize,
     head: &mut [u8],
     front: &[u8],
@@ -128,10 +134,10 @@ fn build(
     out: &mut [u8],
 ) -> Written
     requires { ⌜ (4 ≤ length (now head)) × (length (now head) ≤ 16) ⌝ }
-    ensures { λ r. ⌜ lent (toldWritten r) (now (out .exit)) ≡ tried (againstOctet kind (getD (now (head .entry)) 3 0) ciphered) misfit (packetFrom (header % 256) (drop 3 (now (head .entry)) ++ (now (front .entry) ++ now (back .entry)))) (now (out .entry)) ⌝ }
+    ensures { λ r. ⌜ lent (toldWritten r) (now (out .exit)) ≡ tried (againstOctet kind (getD (now (head .entry)) 3 0) ciphered) misfit unchecked (packetFrom (header % 256) (drop 3 (now (head .entry)) ++ (now (front .entry) ++ now (back .entry)))) (now (out .entry)) ⌝ }
 {
     let long = over(head.len(), front.len(), back.len());
-    let ruled = rule(kind, out.len(), head[3], ciphered, misfit, long);
+    let ruled = rule(kind, out.len(), head[3], ciphered, misfit, unchecked, long);
     match ruled {
         Ruling::Refused(refusal) => Written::Refused(refusal),
         Ruling::Allowed => Written::Octets(write(header, head, front, back, out)),
@@ -145,10 +151,12 @@ fn build_plain(kind: Kind, head: &mut [u8], check: &[u8], secured: &[u8], out: &
 {
     let least = layout::least(kind);
     let misfit = 255 - least < check.len();
+    let unchecked = layout::against_bits(kind, head[3], check.len());
     build(
         kind,
         false,
         misfit,
+        unchecked,
         least + check.len(),
         head,
         check,
@@ -170,10 +178,20 @@ fn build_ciphered(
 {
     let size = header as usize;
     let misfit = outside(kind, size, opaque.len());
-    build(kind, true, misfit, size, head, opaque, &opaque[0..0], out)
+    build(
+        kind,
+        true,
+        misfit,
+        false,
+        size,
+        head,
+        opaque,
+        &opaque[0..0],
+        out,
+    )
 }
 
-// Builds a plain command: refused 1, 10, 11 or 12, or how many octets it has.
+// Builds a plain command: refused 1, 10, 11, 15 or 12, or how many octets it has.
 pub fn build_command(
     clear: Clear,
     cntr: Cntr,

@@ -77,19 +77,19 @@ module _ (k : Kind) (c : Bool) (p d : List ℕ) where
   unfolding checksummed
   sum-buffer n = rw (ne-eqb (length d) 2145 n)
 
-  module _ (l : length d ≡ 2145) (j : Judged) (e : toldJudged j ≡ readable k p (gives (chl p))) where
+  module _ (l : length d ≡ 2145) (j : Judged) (e : toldJudged j ≡ readable k c p (gives (chl p))) where
     pub sum-refused : (r : Refusal) → j ≡ judged.Refused r → lent (refused (refusalNumber r)) d ≡ checksummed k c p d
     unfolding checksummed checksumOctets
-    sum-refused r t = rw (eq-eqb (length d) 2145 l, ← judged-refused k p j e r t)
+    sum-refused r t = rw (eq-eqb (length d) 2145 l, ← judged-refused k c p j e r t)
 
     module _ (h : ℕ) (t : j ≡ judged.Readable h) where
       pub sum-ciphered : c ≡ true → lent (refused 10) d ≡ checksummed k c p d
       unfolding checksummed checksumOctets
-      sum-ciphered s = rw (eq-eqb (length d) 2145 l, s, ← judged-readable k p j e h t)
+      sum-ciphered s = rw (eq-eqb (length d) 2145 l, ← judged-readable k c p j e h t, s)
 
       pub sum-collected : c ≡ false → (w : Lent) → w ≡ writes (gives (fixedOctets k ++ withoutCheck k p)) d → w ≡ checksummed k c p d
       unfolding checksummed checksumOctets
-      sum-collected s w g = rw (eq-eqb (length d) 2145 l, s, ← judged-readable k p j e h t) g
+      sum-collected s w g = rw (eq-eqb (length d) 2145 l, ← judged-readable k c p j e h t, s) g
 
 pub ruleset steps = (
   needs,

@@ -54,14 +54,14 @@ fn collect(kind: Kind, header: usize, packet: &[u8], out: &mut [u8]) -> Written
     Written::Octets(put_run(&packet[from..], out, at))
 }
 
-// The checksum octets of a packet of a kind: refused 1, 9, 12 or 10, or how many octets they are.
+// The checksum octets of a packet of a kind: refused 1, 9, 12, 15 or 10, or how many octets they are.
 fn checksum(kind: Kind, ciphered: bool, packet: &[u8], out: &mut [u8]) -> Written
     ensures { λ r. ⌜ lent (toldWritten r) (now (out .exit)) ≡ checksummed kind ciphered (now (packet .entry)) (now (out .entry)) ⌝ }
 {
     if out.len() != CHECKSUM_OCTETS {
         return Written::Refused(Refusal::BufferOrRecord);
     }
-    let judged = read::judge(kind, packet);
+    let judged = read::judge(kind, ciphered, packet);
     match judged {
         Judged::Refused(refusal) => Written::Refused(refusal),
         Judged::Readable(header) => {
