@@ -9,6 +9,7 @@ use Rattle.demands.proofs.Crowding as crowding
 use Rattle.demands.proofs.Refusing as refusing
 use Rattle.demands.proofs.Orders as orders
 use Rattle.demands.proofs.RoundTrips as trips
+use Rattle.demands.proofs.Checked as checked
 use Rattle.demands.proofs.SplitTaken as split
 use Rattle.demands.proofs.Delivery as delivery
 
@@ -35,8 +36,10 @@ demand-2 = record {
   read-then-build-calls = trips.read-then-build-calls;
   fixed-lengths = trips.fixed-lengths;
   checksum-covers = trips.checksum-covers;
-  formed-is-parsed = trips.formed-is-parsed;
+  parses-or-refuses = trips.parses-or-refuses;
   parsed-is-formed = trips.parsed-is-formed;
+  check-bits = checked.check-bits;
+  still-carried = checked.still-carried;
   builds-or-refuses = trips.builds-or-refuses;
   split-messages = trips.split-messages;
   split-pages = trips.split-pages;

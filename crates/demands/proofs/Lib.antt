@@ -10,6 +10,7 @@ pub mod Refusing
 pub mod Tightness
 pub mod Along
 pub mod RoundTrips
+pub mod Checked
 pub mod SplitTaken
 pub mod Written
 pub mod Delivery

@@ -11,7 +11,7 @@ use borrow.Author.Tests.{not-false, ne-eqb, lt-leb}
 use Rattle.octets.specs.Tests.{neither}
 use Rattle.types.specs.Refusals as outcome
 use Rattle.types.specs.Refusals.{refuse_when_otherwise_}
-use Rattle.packet.specs.Packets.{wellFormed, mostOctets, mostChecksum, into, building, built, checksumOctets, checksummed, parsing, readable, shown, securedOf, checkOf, opaqueOf, fieldsOf, measured, shownData, shownCheck, shownOpaque}
+use Rattle.packet.specs.Packets.{wellFormed, mostOctets, mostChecksum, into, building, built, checksumOctets, checksummed, parsing, againstCheck, readable, shown, securedOf, checkOf, opaqueOf, fieldsOf, measured, shownData, shownCheck, shownOpaque}
 use Rattle.types.specs.declared.Key.{Key}
 use Rattle.arrival.specs.Arrivals.{Brought, single, part}
 use Rattle.arrival.specs.Message.{mostUserData}
@@ -119,11 +119,13 @@ unfolding split.writePage
 page-refused serial identifier dcs p which buffer = piece-left (split.writingPage serial identifier dcs p which buffer) buffer
 
 -- ---- parsing
-nothing : {A : Type 0} (number : ℕ) (x : A) (y : List ℕ) (a b : Bool) → (refuse 9 when a otherwise refuse 12 when b otherwise outcome.gives x) ≡ outcome.refused number
-    → shown (refuse 9 when a otherwise refuse 12 when b otherwise outcome.gives y) ≡ []
-nothing number x y true b e = refl
-nothing number x y false true e = refl
-nothing number x y false false e = let z : _≡_ {A = ℕ} 0 1 = cc in absurd (omega arith)
+nothing : {A : Type 0} (number : ℕ) (x : A) (y : List ℕ) (a b c : Bool)
+    → (refuse 9 when a otherwise refuse 12 when b otherwise refuse 15 when c otherwise outcome.gives x) ≡ outcome.refused number
+    → shown (refuse 9 when a otherwise refuse 12 when b otherwise refuse 15 when c otherwise outcome.gives y) ≡ []
+nothing number x y true b c e = refl
+nothing number x y false true c e = refl
+nothing number x y false false true e = refl
+nothing number x y false false false e = let z : _≡_ {A = ℕ} 0 1 = cc in absurd (omega arith)
 
 pub parsing-refused : ParsingRefused
 unfolding parsing shownData shownCheck shownOpaque
@@ -133,8 +135,8 @@ parsing-refused k c p number e = record {
   opaque = none (opaqueOf (fieldsOf k c p));
 }
   where
-    none : (y : List ℕ) → shown (readable k p (outcome.gives y)) ≡ []
-    none y = nothing number (measured (fieldsOf k c p)) y (not (wellFormed k p)) (ltb mostOctets (length p)) e
+    none : (y : List ℕ) → shown (readable k c p (outcome.gives y)) ≡ []
+    none y = nothing number (measured (fieldsOf k c p)) y (not (wellFormed k p)) (ltb mostOctets (length p)) (againstCheck k (fieldsOf k c p)) e
 
 -- ---- bad buffers and records
 unfit-taken : (n : ℕ) (s : State) (i : Input) → unfit n s ≡ true → takeInput n s i ≡ (refuse) 1 s

@@ -18,9 +18,10 @@ use Rattle.types.specs.Refusals.{gives, refuse_when_otherwise_, writes}
 use Rattle.packet.specs.Packets.{mostOctets, wellFormed, Fields, plain, ciphered, fieldsOf, Parsed, measured, readable, parsing, shown, securedOf, checkOf, opaqueOf, shownData, shownCheck, shownOpaque, packetOf, building, built, cipheredCommand}
 use Rattle.packet.specs.Told.{commandFields, responseFields}
 use Rattle.packet.specs.Laws.{readable-formed, built-formed, built-checksum, built-cipher, built-parsed, built-data, built-check, built-opaque, read-built}
+use Rattle.packet.specs.Judging.{readable-gives}
 use Rattle.split.specs.Laws.{parts-join, pages-join}
 use Rattle.split.specs.ReadBack.{read-single, single-octets, read-part, own-octets, read-single-page, read-page, content-octets}
-use Rattle.demands.specs.RoundTrips.{BuildThenRead, CommandTells, Said, ReadThenBuild, fieldsFrom, AnswersBuild, ReadThenBuildCalls, FixedLengths, ChecksumCovers, FormedIsParsed, ParsedIsFormed, BuildsOrRefuses, SplitMessages, SplitPages}
+use Rattle.demands.specs.RoundTrips.{BuildThenRead, CommandTells, Said, ReadThenBuild, fieldsFrom, AnswersBuild, ReadThenBuildCalls, FixedLengths, ChecksumCovers, ParsesOrRefuses, ParsedIsFormed, BuildsOrRefuses, SplitMessages, SplitPages}
 
 pub build-then-read : BuildThenRead
 build-then-read k x p right e = record {
@@ -36,39 +37,35 @@ pub command-tells : CommandTells
 command-tells x p e = built-cipher x p e
 
 pub read-then-build : ReadThenBuild
-read-then-build k c p formed size bytes s = read-built k c p formed size bytes (told k s)
+read-then-build k c p formed size checked bytes s = read-built k c p formed size checked bytes (told k s)
   where
     told : (k : Kind) → Said k c p → k ≡ Command → c ≡ cipheredCommand p
     told Command s e = s
     told Response s e = let z : _≡_ {A = ℕ} 0 1 = cc in absurd (omega arith)
 
-pub formed-is-parsed : FormedIsParsed
+pub parses-or-refuses : (k : Kind) (c : Bool) (p : List ℕ) → ParsesOrRefuses k c p
 unfolding parsing
-formed-is-parsed k c p formed size = readable-formed k p (gives (measured (fieldsOf k c p))) formed size
+parses-or-refuses k c p = record {
+  nine = λ w. rw w;
+  twelve = λ w l. rw (w, lt-ltb mostOctets (length p) l);
+  fifteen = λ w l a. rw (w, le-ltb mostOctets (length p) l, a);
+  given = λ w l a. rw (w, le-ltb mostOctets (length p) l, a);
+}
 
 pub parsed-is-formed : ParsedIsFormed
 unfolding parsing
-parsed-is-formed k c p x e = go (wellFormed k p) refl (ltb mostOctets (length p)) refl e
-  where
-    go : (a : Bool) → wellFormed k p ≡ a → (b : Bool) → ltb mostOctets (length p) ≡ b
-        → (refuse 9 when not a otherwise refuse 12 when b otherwise gives (measured (fieldsOf k c p))) ≡ gives x → (wellFormed k p ≡ true) × (length p ≤ mostOctets)
-    go false f b l e = let z : _≡_ {A = ℕ} 0 1 = cc in absurd (omega arith)
-    go true f true l e = let z : _≡_ {A = ℕ} 0 1 = cc in absurd (omega arith)
-    go true f false l e = (f, ltb-false mostOctets (length p) l)
+parsed-is-formed k c p x e = let r = readable-gives k c p (measured (fieldsOf k c p)) x (sym e) .0 in (r .formed, r .size, r .checked)
 
 -- what parsing answered and showing gave are the packet's fields
 pub answers-build : AnswersBuild
 unfolding parsing shownData shownCheck shownOpaque
 answers-build k c p x bytes s e =
-    let (formed, size) = parsed-is-formed k c p x e in
-    let z : gives (measured (fieldsOf k c p)) ≡ gives x = sym (readable-formed k p (gives (measured (fieldsOf k c p))) formed size) ∙ e in
-    let y : measured (fieldsOf k c p) ≡ x = cc in
-    ap (building k) (rw (← y, seen formed size (checkOf (fieldsOf k c p)), seen formed size (securedOf (fieldsOf k c p)), seen formed size (opaqueOf (fieldsOf k c p))) (same (fieldsOf k c p)))
-    ∙ read-then-build k c p formed size bytes s
+    let (formed, size, checked) = parsed-is-formed k c p x e in
+    let y : x ≡ measured (fieldsOf k c p) = readable-gives k c p (measured (fieldsOf k c p)) x (sym e) .1 in
+    let seen : (o : List ℕ) → shown (readable k c p (gives o)) ≡ o = λ o. ap shown (readable-formed k c p (gives o) formed size checked) in
+    ap (building k) (rw (y, seen (checkOf (fieldsOf k c p)), seen (securedOf (fieldsOf k c p)), seen (opaqueOf (fieldsOf k c p))) (same (fieldsOf k c p)))
+    ∙ read-then-build k c p formed size checked bytes s
   where
-    seen : wellFormed k p ≡ true → length p ≤ mostOctets → (o : List ℕ) → shown (readable k p (gives o)) ≡ o
-    seen formed size o = ap shown (readable-formed k p (gives o) formed size)
-
     same : (y : Fields) → fieldsFrom (measured y) (checkOf y) (securedOf y) (opaqueOf y) ≡ y
     same (plain f c d) = refl
     same (ciphered f h o) = refl
@@ -109,8 +106,9 @@ unfolding building
 builds-or-refuses k x = record {
   ten = λ a. rw a;
   eleven = λ a m. rw (a, m);
-  twelve = λ a m l. rw (a, m, lt-ltb mostOctets (length (packetOf k x)) l);
-  given = λ a m l. rw (a, m, le-ltb mostOctets (length (packetOf k x)) l);
+  fifteen = λ a m u. rw (a, m, u);
+  twelve = λ a m u l. rw (a, m, u, lt-ltb mostOctets (length (packetOf k x)) l);
+  given = λ a m u l. rw (a, m, u, le-ltb mostOctets (length (packetOf k x)) l);
 }
 
 pub split-messages : SplitMessages

@@ -10,7 +10,7 @@ use Rattle.octets.specs.Octets as octets
 use Rattle.octets.specs.Given as given
 use Rattle.types.specs.declared.Kind.the-variants.{Command, Response}
 use Rattle.types.specs.declared.Refusal.{Refusal}
-use Rattle.types.specs.declared.Refusal.the-variants.{BufferOrRecord, InputLength, HeaderOverrun, HeaderElement, WrongIdentifier, TooManyParts, OtherTotal, OtherOctets, MalformedPacket, CipherMismatch, PacketHeader, PacketTooLong, ReferenceWidth, PartNumber}
+use Rattle.types.specs.declared.Refusal.the-variants.{BufferOrRecord, InputLength, HeaderOverrun, HeaderElement, WrongIdentifier, TooManyParts, OtherTotal, OtherOctets, MalformedPacket, CipherMismatch, PacketHeader, PacketTooLong, ReferenceWidth, PartNumber, CheckMismatch}
 use Rattle.types.specs.declared.Tar.{Tar}
 use Rattle.types.specs.declared.Cntr.{Cntr}
 use Rattle.types.specs.declared.Clear.{Clear}
@@ -58,7 +58,7 @@ tight told back recovers rule r₁ r₂ e₁ e₂ = sym (recovers r₁) ∙ ap b
 refusalOf : ℕ → Refusal
 refusalOf n =
     getD
-    (BufferOrRecord ∷ InputLength ∷ HeaderOverrun ∷ HeaderElement ∷ WrongIdentifier ∷ TooManyParts ∷ OtherTotal ∷ OtherOctets ∷ MalformedPacket ∷ CipherMismatch ∷ PacketHeader ∷ PacketTooLong ∷ ReferenceWidth ∷ PartNumber ∷ [])
+    (BufferOrRecord ∷ InputLength ∷ HeaderOverrun ∷ HeaderElement ∷ WrongIdentifier ∷ TooManyParts ∷ OtherTotal ∷ OtherOctets ∷ MalformedPacket ∷ CipherMismatch ∷ PacketHeader ∷ PacketTooLong ∷ ReferenceWidth ∷ PartNumber ∷ CheckMismatch ∷ [])
     (n - 1) BufferOrRecord
 
 refusal-back : (r : Refusal) → refusalOf (refusalNumber r) ≡ r
@@ -77,6 +77,7 @@ refusal-back PacketHeader = refl
 refusal-back PacketTooLong = refl
 refusal-back ReferenceWidth = refl
 refusal-back PartNumber = refl
+refusal-back CheckMismatch = refl
 
 -- ---- parsed packets
 tarAt : List ℕ → ℕ → Tar

@@ -1,5 +1,6 @@
 -- THE THREE DEMANDS on the library, at 01's three slots.
 use Prim.Native.Nat.{ℕ}
+use mathlib.Core.Bool.{Bool}
 use mathlib.Core.List.{List}
 use Rattle.types.specs.declared.Kind.{Kind}
 use Rattle.packet.specs.Packets.{Fields}
@@ -7,7 +8,8 @@ use Rattle.types.specs.declared.Key.{Key}
 use Rattle.slots.specs.Slots.{slotCount}
 use Rattle.demands.specs.Refusing.{TakingRefused, ParsingRefused, BuildingRefused, ChecksumRefused, WritingRefused, PageRefused, UnfitRefused}
 use Rattle.demands.specs.Orders.{OrderFree}
-use Rattle.demands.specs.RoundTrips.{BuildThenRead, CommandTells, ReadThenBuild, AnswersBuild, ReadThenBuildCalls, FixedLengths, ChecksumCovers, FormedIsParsed, ParsedIsFormed, BuildsOrRefuses, SplitMessages, SplitPages}
+use Rattle.demands.specs.RoundTrips.{BuildThenRead, CommandTells, ReadThenBuild, AnswersBuild, ReadThenBuildCalls, FixedLengths, ChecksumCovers, ParsesOrRefuses, ParsedIsFormed, BuildsOrRefuses, SplitMessages, SplitPages}
+use Rattle.demands.specs.Checked.{CheckBits, StillCarried}
 use Rattle.demands.specs.Wake.{WakeWindow, PacketComes}
 use Rattle.demands.specs.Always.{AlwaysFormed, NoKeyTwice}
 use Rattle.demands.specs.Crowding.{NeverDisplaced}
@@ -36,8 +38,10 @@ pub record Demand2 : Type 0 where
   pub read-then-build-calls : ReadThenBuildCalls
   pub fixed-lengths : FixedLengths
   pub checksum-covers : ChecksumCovers
-  pub formed-is-parsed : FormedIsParsed
+  pub parses-or-refuses : (k : Kind) (c : Bool) (p : List ℕ) → ParsesOrRefuses k c p
   pub parsed-is-formed : ParsedIsFormed
+  pub check-bits : CheckBits
+  pub still-carried : StillCarried
   pub builds-or-refuses : (k : Kind) (x : Fields) → BuildsOrRefuses k x
   pub split-messages : SplitMessages
   pub split-pages : SplitPages

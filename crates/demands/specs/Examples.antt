@@ -40,9 +40,12 @@ Ends = List ℕ → List ℕ → After
 abbrev refuses : ℕ → Ends
 refuses number cells output = after (refusedBy number) (freshRecord slotCount Command) cells output
 
--- M handed out: its length, M at the start of the output, and the rest of that buffer as it was
+-- a packet handed out: its length, the packet at the start of the output, and the rest of that buffer as it was
+abbrev pub handsOut : List ℕ → Ends
+handsOut p cells output = after (packet (length p)) (freshRecord slotCount Command) cells (p ++ drop (length p) output)
+
 abbrev handsOutM : Ends
-handsOutM cells output = after (packet 16) (freshRecord slotCount Command) cells (M ++ drop 16 output)
+handsOutM = handsOut M
 
 -- a part in slot 0, the most recent series; the other slots are free
 abbrev holds : Slot → Record

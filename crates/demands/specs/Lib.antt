@@ -10,5 +10,6 @@ pub mod Refusing
 pub mod Tightness
 pub mod Reached
 pub mod RoundTrips
+pub mod Checked
 pub mod SplitTaken
 pub mod Delivery

@@ -1,5 +1,5 @@
--- Demand 2: "Building then reading gives the same fields, and reading then building the same octets"; and what is split, every reader of 01
--- puts together again.
+-- Demand 2: "Building then reading gives the same fields, and reading then building the same octets", "over packets that pass" (02, [3]); and
+-- what is split, every reader of 01 puts together again.
 use Prim.Native.Nat.{ℕ, _+_, _-_, _*_, _≤_, _<_}
 use mathlib.Core.Path.{_≡_}
 use mathlib.Core.Bool.{Bool, true, false}
@@ -23,7 +23,7 @@ use Rattle.types.specs.declared.Response as responses
 use Rattle.types.specs.declared.ParsedCommand.the-variants as parsedCommand
 use Rattle.types.specs.declared.ParsedResponse.the-variants as parsedResponse
 use Rattle.types.specs.Refusals.{gives, refused, writes}
-use Rattle.packet.specs.Packets.{least, mostOctets, wellFormed, Fields, plain, ciphered, fieldsOf, cipheredCommand, isCiphered, measured, parsing, securedOf, checkOf, opaqueOf, shownData, shownCheck, shownOpaque, againstSpi, misfit, packetOf, Parsed, plainParsed, cipheredParsed, building, built, fixedOctets, checksumOctets}
+use Rattle.packet.specs.Packets.{least, mostOctets, wellFormed, Fields, plain, ciphered, fieldsOf, cipheredCommand, isCiphered, measured, parsing, securedOf, checkOf, opaqueOf, shownData, shownCheck, shownOpaque, againstSpi, againstCheck, misfit, packetOf, Parsed, plainParsed, cipheredParsed, building, built, fixedOctets, checksumOctets}
 use Rattle.packet.specs.Told.{tarOctets, clearOctets, commandFixed, responseFixed, toldCommand, toldResponse}
 use Rattle.packet.specs.Laws.{RightLength}
 use Rattle.arrival.specs.Arrivals.{single, part}
@@ -57,7 +57,7 @@ Said Response c p = Unit {0}
 
 abbrev pub ReadThenBuild : Type 0
 ReadThenBuild =
-    (k : Kind) (c : Bool) (p : List ℕ) → wellFormed k p ≡ true → length p ≤ mostOctets → Octets p → Said k c p
+    (k : Kind) (c : Bool) (p : List ℕ) → wellFormed k p ≡ true → length p ≤ mostOctets → againstCheck k (fieldsOf k c p) ≡ false → Octets p → Said k c p
     → building k (fieldsOf k c p) ≡ gives p
 
 -- The fields that building is handed are those that parsing answered, with the parts that showing gave.
@@ -101,19 +101,25 @@ ChecksumCovers =
     → let lengths : Pair = pairOf (1 + (least k + length check + length secured)) in
     checksumOctets k false p ≡ gives (fixedOctets k ++ (lengths .0 ∷ lengths .1 ∷ (least k + length check) ∷ (fixed ++ secured)))
 
--- a packet parses if it is well formed and not too long, and only then
-abbrev pub FormedIsParsed : Type 0
-FormedIsParsed = (k : Kind) (c : Bool) (p : List ℕ) → wellFormed k p ≡ true → length p ≤ mostOctets → parsing k c p ≡ gives (measured (fieldsOf k c p))
+-- parsing is refused exactly on its conditions, tested in their order, and else gives the fields
+pub record ParsesOrRefuses (k : Kind) (c : Bool) (p : List ℕ) : Type 0 where
+  pub nine : wellFormed k p ≡ false → parsing k c p ≡ refused 9
+  pub twelve : wellFormed k p ≡ true → mostOctets < length p → parsing k c p ≡ refused 12
+  pub fifteen : wellFormed k p ≡ true → length p ≤ mostOctets → againstCheck k (fieldsOf k c p) ≡ true → parsing k c p ≡ refused 15
+  pub given : wellFormed k p ≡ true → length p ≤ mostOctets → againstCheck k (fieldsOf k c p) ≡ false → parsing k c p ≡ gives (measured (fieldsOf k c p))
 
 abbrev pub ParsedIsFormed : Type 0
-ParsedIsFormed = (k : Kind) (c : Bool) (p : List ℕ) (x : Parsed) → parsing k c p ≡ gives x → (wellFormed k p ≡ true) × (length p ≤ mostOctets)
+ParsedIsFormed =
+    (k : Kind) (c : Bool) (p : List ℕ) (x : Parsed) → parsing k c p ≡ gives x
+    → (wellFormed k p ≡ true) × (length p ≤ mostOctets) × (againstCheck k (fieldsOf k c p) ≡ false)
 
 -- building is refused exactly on its conditions, tested in their order, and else gives the packet
 pub record BuildsOrRefuses (k : Kind) (x : Fields) : Type 0 where
   pub ten : againstSpi k x ≡ true → building k x ≡ refused 10
   pub eleven : againstSpi k x ≡ false → misfit k x ≡ true → building k x ≡ refused 11
-  pub twelve : againstSpi k x ≡ false → misfit k x ≡ false → mostOctets < length (packetOf k x) → building k x ≡ refused 12
-  pub given : againstSpi k x ≡ false → misfit k x ≡ false → length (packetOf k x) ≤ mostOctets → building k x ≡ gives (packetOf k x)
+  pub fifteen : againstSpi k x ≡ false → misfit k x ≡ false → againstCheck k x ≡ true → building k x ≡ refused 15
+  pub twelve : againstSpi k x ≡ false → misfit k x ≡ false → againstCheck k x ≡ false → mostOctets < length (packetOf k x) → building k x ≡ refused 12
+  pub given : againstSpi k x ≡ false → misfit k x ≡ false → againstCheck k x ≡ false → length (packetOf k x) ≤ mostOctets → building k x ≡ gives (packetOf k x)
 
 -- ---- splitting
 -- one message: the packet is its own octets; several: each part is read as that part of the series, and joined in order they are the packet

@@ -1,0 +1,40 @@
+-- The test of check bits case by case, and a packet that it refuses and that is carried all the same: by computing.
+use Prim.Native.Nat.{ℕ, _%_, _<_}
+use mathlib.Core.Path.{_≡_, refl}
+use mathlib.Core.Bool.{true, false}
+use mathlib.Core.List.{List, [], _∷_}
+use native.Mathlib.Omega.{arith}
+use lib.ListN.{length, getD}
+use borrow.Author.Tests.{eq-eqb, ne-eqb}
+use Rattle.types.specs.declared.Kind.the-variants.{Command, Response}
+use Rattle.packet.specs.Packets.{Fields, plain, ciphered, againstCheck, parsing}
+use Rattle.joined.specs.Fronts.{packetIn}
+use Rattle.header.specs.Header.{elementsAfter, summary}
+use Rattle.arrival.specs.Message.{judged, readMessage}
+use Rattle.slots.specs.Below.{allBelow, anyBelow, countBelow}
+use Rattle.formed.specs.Formed.{allZero, slotFormed, keysDiffer, ranked, slotsFormed}
+use Rattle.series.specs.Taking.{takeMessage}
+use Rattle.split.specs.Splitting.{partOctets, userData}
+use Rattle.demands.specs.Checked.{CheckBits, StillCarried}
+
+response-unchecked : (x : Fields) → againstCheck Response x ≡ false
+response-unchecked (plain f c d) = refl
+response-unchecked (ciphered f h o) = refl
+
+pub check-bits : CheckBits
+check-bits = record {
+  none-said = λ f c d e l. rw (eq-eqb (getD f 0 0 % 4) 0 e, ne-eqb (length c) 0 (λ z. omega arith));
+  some-said = λ f d n. rw (ne-eqb (getD f 0 0 % 4) 0 n);
+  none-there = λ f d e. rw (eq-eqb (getD f 0 0 % 4) 0 e);
+  some-there = λ f c d n l. rw (ne-eqb (getD f 0 0 % 4) 0 n, ne-eqb (length c) 0 (λ z. omega arith));
+  ciphered-never = λ k f h o. refl;
+  response-never = response-unchecked;
+}
+
+pub still-carried : StillCarried
+unfolding parsing elementsAfter summary judged readMessage allBelow anyBelow countBelow allZero slotFormed keysDiffer ranked slotsFormed packetIn takeMessage partOctets userData
+still-carried = record {
+  parsing-refuses = refl;
+  splitting-writes = refl;
+  handed-out = λ cells output c o. rw (c, o);
+}
