@@ -15,7 +15,7 @@ ghost use lib.ListN.{length, getD, drop};
 ghost use lib.Dec.{ltb};
 ghost use Rattle.octets.specs.Octets.{pairOf, placed};
 ghost use Rattle.types.specs.Refusals.{gives, lent, writes, toldWritten};
-ghost use Rattle.packet.specs.Packets.{before, least, plain, ciphered, againstBits, mostOctets, packetFrom, built};
+ghost use Rattle.packet.specs.Packets.{before, least, plain, ciphered, mostOctets, packetFrom, built};
 ghost use Rattle.packet.specs.Told.{tarOctets, clearOctets, commandFixed, responseFixed};
 ghost use Rattle.build.specs.Within.{againstOctet, outside, toldRuling, ruled, tried};
 

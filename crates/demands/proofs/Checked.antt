@@ -1,12 +1,11 @@
 -- The test of check bits case by case, and a packet that it refuses and that is carried all the same: by computing.
-use Prim.Native.Nat.{ℕ, _%_, _<_}
+use Prim.Native.Nat.{_%_}
 use mathlib.Core.Path.{_≡_, refl}
-use mathlib.Core.Bool.{true, false}
-use mathlib.Core.List.{List, [], _∷_}
+use mathlib.Core.Bool.{false}
 use native.Mathlib.Omega.{arith}
 use lib.ListN.{length, getD}
 use borrow.Author.Tests.{eq-eqb, ne-eqb}
-use Rattle.types.specs.declared.Kind.the-variants.{Command, Response}
+use Rattle.types.specs.declared.Kind.the-variants.{Response}
 use Rattle.packet.specs.Packets.{Fields, plain, ciphered, againstCheck, parsing}
 use Rattle.joined.specs.Fronts.{packetIn}
 use Rattle.header.specs.Header.{elementsAfter, summary}

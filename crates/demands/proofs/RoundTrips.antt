@@ -1,12 +1,10 @@
 -- Demand 2: the round trips of packets, by the laws of `packet`, and of splitting, by those of `split`.
 use Prim.Native.Nat.{ℕ}
 use mathlib.Core.Path.{_≡_, refl, sym, ap, _∙_}
-use mathlib.Core.Bool.{Bool, true, false, not}
-use Prim.Native.Nat.{_≤_}
+use mathlib.Core.Bool.{Bool}
 use mathlib.Core.List.{List}
 use lib.ListN.{length}
-use lib.Dec.{ltb}
-use borrow.Author.Tests.{lt-ltb, le-ltb, ltb-false, eq-eqb}
+use borrow.Author.Tests.{lt-ltb, le-ltb, eq-eqb}
 use native.Mathlib.Omega.{arith}
 use Rattle.types.specs.declared.Kind.{Kind}
 use Rattle.types.specs.declared.Kind.the-variants.{Command, Response}
@@ -14,8 +12,8 @@ use Rattle.types.specs.declared.CommandBody.{CommandBody}
 use Rattle.types.specs.declared.CommandBody.the-variants as command
 use Rattle.types.specs.declared.ResponseBody.{ResponseBody}
 use Rattle.types.specs.declared.ResponseBody.the-variants as response
-use Rattle.types.specs.Refusals.{gives, refuse_when_otherwise_, writes}
-use Rattle.packet.specs.Packets.{mostOctets, wellFormed, Fields, plain, ciphered, fieldsOf, Parsed, measured, readable, parsing, shown, securedOf, checkOf, opaqueOf, shownData, shownCheck, shownOpaque, packetOf, building, built, cipheredCommand}
+use Rattle.types.specs.Refusals.{gives, writes}
+use Rattle.packet.specs.Packets.{mostOctets, Fields, plain, ciphered, fieldsOf, Parsed, measured, readable, parsing, shown, securedOf, checkOf, opaqueOf, shownData, shownCheck, shownOpaque, packetOf, building, built, cipheredCommand}
 use Rattle.packet.specs.Told.{commandFields, responseFields}
 use Rattle.packet.specs.Laws.{readable-formed, built-formed, built-checksum, built-cipher, built-parsed, built-data, built-check, built-opaque, read-built}
 use Rattle.packet.specs.Judging.{readable-gives}

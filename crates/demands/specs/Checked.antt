@@ -7,7 +7,7 @@ use mathlib.Core.List.{List, [], _∷_}
 use lib.ListN.{length, getD}
 use Rattle.types.specs.declared.Kind.{Kind}
 use Rattle.types.specs.declared.Kind.the-variants.{Command, Response}
-use Rattle.types.specs.Refusals.{refused, gives}
+use Rattle.types.specs.Refusals.{refused}
 use Rattle.packet.specs.Packets.{Fields, plain, ciphered, cipheredCommand, againstCheck, parsing}
 use Rattle.series.specs.Calls.{message}
 use Rattle.split.specs.Splitting.{userData}

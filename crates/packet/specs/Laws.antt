@@ -15,7 +15,7 @@ use Rattle.octets.specs.Laws.{number-of-pair}
 use Rattle.types.specs.declared.Kind.{Kind}
 use Rattle.types.specs.declared.Kind.the-variants.{Command, Response}
 use Rattle.types.specs.Refusals.{Outcome, gives, refuse_when_otherwise_}
-use Rattle.packet.specs.Packets.{before, least, cpl, chl, wellFormed, Fields, plain, ciphered, fieldsBehind, fieldsOf, cipherBit, cipheredCommand, measured, againstBits, againstCheck, readable, parsing, shown, securedOf, checkOf, opaqueOf, shownData, shownCheck, shownOpaque, headerLength, behind, packetFrom, packetOf, isCiphered, differ, againstSpi, misfit, building, fixedOctets, withoutCheck, checksumOctets}
+use Rattle.packet.specs.Packets.{before, least, cpl, chl, wellFormed, Fields, plain, ciphered, fieldsBehind, fieldsOf, cipherBit, cipheredCommand, measured, againstCheck, readable, parsing, shown, securedOf, checkOf, opaqueOf, shownData, shownCheck, shownOpaque, headerLength, behind, packetFrom, packetOf, isCiphered, differ, againstSpi, misfit, building, fixedOctets, withoutCheck, checksumOctets}
 
 -- ---- the layout
 -- something stands before CNTR; CNTR and PCNTR lie before the check field; what lies there is little
