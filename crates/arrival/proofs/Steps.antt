@@ -63,28 +63,28 @@ pub misplaced-told : (f o w : Bool) (k : Kind) (s : Seen) → f ≡ foreign k s 
 misplaced-told f o w k s p q r = rw (differ-told o w, p, q, r)
 
 module _ (k : Kind) (sender start : ℕ) (s : Seen) where
-  pub judged-element : (s .wrong || s .twice) ≡ true → refused 4 ≡ judged k sender start s
+  pub judged-element : s .wrong ≡ true → refused 4 ≡ judged k sender start s
   unfolding judged
   judged-element e = rw e
 
-  module _ (right : (s .wrong || s .twice) ≡ false) (m : Bool) (rule : m ≡ misplaced k s) where
+  module _ (right : s .wrong ≡ false) (m : Bool) (rule : m ≡ misplaced k s) where
     pub judged-misplaced : m ≡ true → refused 5 ≡ judged k sender start s
     unfolding judged
-    judged-misplaced e = rw (right, ← rule, e)
+    judged-misplaced e = rw (← rule, e, right)
 
     module _ (here : m ≡ false) (a : Bool) (sole : a ≡ alone (s .concatenation)) where
       pub judged-single : a ≡ true → gives (single start) ≡ judged k sender start s
       unfolding judged
-      judged-single e = rw (right, ← rule, here, ← sole, e)
+      judged-single e = rw (← rule, here, right, ← sole, e)
 
       pub judged-total : a ≡ false → 16 < s .concatenation .total → refused 6 ≡ judged k sender start s
       unfolding judged
-      judged-total e l = rw (right, ← rule, here, ← sole, e, lt-ltb _ _ l)
+      judged-total e l = rw (← rule, here, right, ← sole, e, lt-ltb _ _ l)
 
       pub judged-part : a ≡ false → s .concatenation .total ≤ 16 → (x : Key) → x ≡ messageKey sender (s .concatenation)
           → gives (part x (s .concatenation .total) (s .concatenation .number) start) ≡ judged k sender start s
       unfolding judged
-      judged-part e l x f = rw (right, ← rule, here, ← sole, e, le-ltb _ _ l, f)
+      judged-part e l x f = rw (← rule, here, right, ← sole, e, le-ltb _ _ l, f)
 
 -- ---- the message
 module _ (k : Kind) (sender : ℕ) (ud : List ℕ) where

@@ -207,9 +207,9 @@ record Judged (k : Kind) (sender start : ℕ) (s : Seen) (x : Brought) : Type 0 
 judged-given : (k : Kind) (sender start : ℕ) (s : Seen) (x : Brought) → judged k sender start s ≡ gives x → Judged k sender start s x
 unfolding judged
 judged-given k sender start s x e =
-    let (right, e₁) = not-refused 4 (s .wrong || s .twice) _ x e in
+    let (right, e₁) = not-refused 4 (s .wrong) _ x e in
     let (placed, e₂) = not-refused 5 (misplaced k s) _ x e₁ in
-    record { right = neither (s .wrong) (s .twice) right .0; placed = placed; verdict = e₂ }
+    record { right = right; placed = placed; verdict = e₂ }
 
 -- a single message or part 1 bears a packet identifier
 opening-bears : (k : Kind) (s : Seen) → misplaced k s ≡ false → opens (s .concatenation) ≡ true → 1 ≤ bit (s .command) + bit (s .response)

@@ -64,8 +64,8 @@ borneItems Command true = item 0x70 [] ∷ []
 borneItems Response true = item 0x71 [] ∷ []
 
 abbrev heard : Kind → Bool → Concatenation → Seen
-heard Command b c = record { wrong = false; twice = false; concatenation = c; command = b; response = false }
-heard Response b c = record { wrong = false; twice = false; concatenation = c; command = false; response = b }
+heard Command b c = record { wrong = false; concatenation = c; command = b; response = false }
+heard Response b c = record { wrong = false; concatenation = c; command = false; response = b }
 
 borne-length : (k : Kind) (b : Bool) → length (borne k b) ≡ 2 * bit b
 borne-length k false = refl

@@ -29,7 +29,8 @@ headerOctets ud = take (udhl ud) (drop 1 ud)
 abbrev pub afterHeader : List ℕ → ℕ
 afterHeader ud = udhl ud + 1
 
--- "Total 0, number 0 or number above total: the concatenation element is ignored as if absent."
+-- "Total 0, number 0 or number above total: the concatenation element is ignored as if absent." Of several it is the last that is looked at: "if
+-- the last has an ignored total or number, there is none" (02, [2]).
 abbrev pub ignored : Concatenation → Bool
 ignored c = eqb (c .total) 0 || eqb (c .number) 0 || ltb (c .total) (c .number)
 
@@ -65,7 +66,7 @@ mostParts = 16
 -- what a header says of the message, its own octets beginning at `start`: 4, 5, 6
 unfoldable pub judged : Kind → ℕ → ℕ → Seen → Outcome Brought
 judged k sender start s =
-    refuse 4 when s .wrong || s .twice otherwise
+    refuse 4 when s .wrong otherwise
     refuse 5 when misplaced k s otherwise
     cond (alone (s .concatenation))
     (gives (single start))

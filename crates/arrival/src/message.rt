@@ -74,7 +74,7 @@ fn key_of(sender: u32, c: Concatenation) -> Key
 fn judge(kind: Kind, sender: u32, start: usize, seen: Seen) -> Arrival
     ensures { λ r. ⌜ toldArrival r ≡ judged kind sender start seen ⌝ }
 {
-    if seen.wrong | seen.twice {
+    if seen.wrong {
         return Arrival::Refused(Refusal::HeaderElement);
     }
     if is_misplaced(kind, seen) {

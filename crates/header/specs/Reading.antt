@@ -2,7 +2,7 @@
 -- `Header.antt`.
 use Prim.Native.Nat.{ℕ, _+_}
 use mathlib.Core.List.{List, [], _∷_}
-use mathlib.Core.Bool.{Bool, true, false, not, cond, _||_}
+use mathlib.Core.Bool.{Bool, true, false, cond, _||_}
 use mathlib.Core.Option.{Option, none, some}
 use lib.ListN.{length, getD, drop}
 use lib.Dec.{eqb, leb}
@@ -31,32 +31,24 @@ wideIn o = record { width = 16; reference = numberOf (getD o 0 0) (getD o 1 0); 
 
 -- ---- what was seen, and an element more
 abbrev pub nothingSeen : Seen
-nothingSeen = record { wrong = false; twice = false; concatenation = noConcatenation; command = false; response = false }
+nothingSeen = record { wrong = false; concatenation = noConcatenation; command = false; response = false }
 
 abbrev pub wrongSeen : Seen → Seen
-wrongSeen s = record { wrong = true; twice = s .twice; concatenation = s .concatenation; command = s .command; response = s .response }
+wrongSeen s = record { wrong = true; concatenation = s .concatenation; command = s .command; response = s .response }
 
--- a concatenation has a width, so a width tells that there was one
-abbrev pub hasConcatenation : Seen → Bool
-hasConcatenation s = not (eqb (s .concatenation .width) 0)
-
+-- the concatenation element read last stands in the place of an earlier one
 abbrev pub concatenationSeen : Seen → Concatenation → Seen
-concatenationSeen s c = record { wrong = s .wrong; twice = hasConcatenation s || s .twice; concatenation = c; command = s .command; response = s .response }
+concatenationSeen s c = record { wrong = s .wrong; concatenation = c; command = s .command; response = s .response }
 
 abbrev pub commandSeen : Seen → Seen
-commandSeen s = record { wrong = s .wrong; twice = s .command || s .twice; concatenation = s .concatenation; command = true; response = s .response }
+commandSeen s = record { wrong = s .wrong; concatenation = s .concatenation; command = true; response = s .response }
 
 abbrev pub responseSeen : Seen → Seen
-responseSeen s = record { wrong = s .wrong; twice = s .response || s .twice; concatenation = s .concatenation; command = s .command; response = true }
-
--- whether an element repeats what was seen
-abbrev pub repeats : Seen → Item → Bool
-repeats s e = cond (isConcatenation e) (hasConcatenation s) (cond (has 0x70 e) (s .command) (cond (has 0x71 e) (s .response) false))
+responseSeen s = record { wrong = s .wrong; concatenation = s .concatenation; command = s .command; response = true }
 
 abbrev pub noted : Seen → Item → Seen
 noted s e = record {
   wrong = s .wrong;
-  twice = repeats s e || s .twice;
   concatenation = cond (isConcatenation e) (concatenationIn e) (s .concatenation);
   command = has 0x70 e || s .command;
   response = has 0x71 e || s .response;
@@ -84,14 +76,13 @@ abbrev pub toldWalked : Walked → Outcome Seen
 toldWalked whole.Past = refused 3
 toldWalked (whole.Header s) = gives s
 
--- What was seen lies in four flags, three octets and a number while the header is read.
+-- What was seen lies in three flags, three octets and a number while the header is read.
 abbrev pub seenIn : List Bool → List ℕ → ℕ → Seen
 seenIn flags octets n = record {
   wrong = getD flags 0 false;
-  twice = getD flags 1 false;
   concatenation = record { width = getD octets 0 0; reference = n; total = getD octets 1 0; number = getD octets 2 0 };
-  command = getD flags 2 false;
-  response = getD flags 3 false;
+  command = getD flags 1 false;
+  response = getD flags 2 false;
 }
 
 -- The number that reading the rest of a header answers: that of a refusal, or 0 beside what was seen.

@@ -16,8 +16,7 @@ pub struct Concatenation {
 pub struct Seen {
     // an element that counts is of wrong length
     pub wrong: bool,
-    // a concatenation element, or the same packet identifier, was given twice
-    pub twice: bool,
+    // what the last concatenation element says; width and total are 0 if there is none
     pub concatenation: Concatenation,
     // the packet identifier of commands is there, and that of responses
     pub command: bool,
@@ -109,7 +108,6 @@ impl Seen {
     {
         Seen {
             wrong: false,
-            twice: false,
             concatenation: Concatenation {
                 width: 0,
                 reference: 0,
@@ -129,21 +127,18 @@ impl Seen {
         self
     }
 
-    // A concatenation element: a width that is not 0 tells that there was one before.
+    // A concatenation element takes the place of an earlier one, of either width.
     fn concatenated(mut self, c: Concatenation) -> Self
         ensures { λ r. ⌜ r ≡ concatenationSeen self c ⌝ }
     {
-        let width = self.concatenation.width;
-        self.twice = (width != 0) | self.twice;
         self.concatenation = c;
         self
     }
 
-    // The packet identifier of commands, and that of responses.
+    // The packet identifier of commands, and that of responses: given again it says nothing new.
     fn commanded(mut self) -> Self
         ensures { λ r. ⌜ r ≡ commandSeen self ⌝ }
     {
-        self.twice = self.command | self.twice;
         self.command = true;
         self
     }
@@ -151,7 +146,6 @@ impl Seen {
     fn responded(mut self) -> Self
         ensures { λ r. ⌜ r ≡ responseSeen self ⌝ }
     {
-        self.twice = self.response | self.twice;
         self.response = true;
         self
     }
@@ -195,37 +189,36 @@ impl Seen {
     }
 }
 
-// What was seen, as it lies in what a walk was lent: four flags (an element of wrong length, one given twice, the two packet identifiers), three
-// octets (a concatenation's width, total and number), and its reference.
-fn seen_in(flags: &[bool; 4], octets: &[u8; 3], reference: u16) -> Seen
+// What was seen, as it lies in what a walk was lent: three flags (an element of wrong length, the two packet identifiers), three octets (a
+// concatenation's width, total and number), and its reference.
+fn seen_in(flags: &[bool; 3], octets: &[u8; 3], reference: u16) -> Seen
     ensures { λ r. ⌜ r ≡ seenIn (now (flags .entry)) (now (octets .entry)) reference ⌝ }
 {
     Seen {
         wrong: flags[0],
-        twice: flags[1],
         concatenation: Concatenation {
             width: octets[0],
             reference,
             total: octets[1],
             number: octets[2],
         },
-        command: flags[2],
-        response: flags[3],
+        command: flags[1],
+        response: flags[2],
     }
 }
 
 // Lays down what was seen.
-fn lay(seen: Seen, flags: &mut [bool; 4], octets: &mut [u8; 3], reference: &mut u16)
+fn lay(seen: Seen, flags: &mut [bool; 3], octets: &mut [u8; 3], reference: &mut u16)
     ensures { λ _. ⌜ seenIn (now (flags .exit)) (now (octets .exit)) (now (reference .exit)) ≡ seen ⌝ }
 {
     let c = seen.concatenation;
-    *flags = [seen.wrong, seen.twice, seen.command, seen.response];
+    *flags = [seen.wrong, seen.command, seen.response];
     *octets = [c.width, c.total, c.number];
     *reference = c.reference;
 }
 
 // Lays one more element, with the octets that are its own, to what was seen.
-fn lay_more(id: u8, own: &[u8], flags: &mut [bool; 4], octets: &mut [u8; 3], reference: &mut u16)
+fn lay_more(id: u8, own: &[u8], flags: &mut [bool; 3], octets: &mut [u8; 3], reference: &mut u16)
     ensures { λ _. ⌜ seenIn (now (flags .exit)) (now (octets .exit)) (now (reference .exit)) ≡ added (seenIn (now (flags .entry)) (now (octets .entry)) (now (reference .entry))) (item id (now (own .entry))) ⌝ }
 {
     let seen = seen_in(flags, octets, *reference);
@@ -238,7 +231,7 @@ fn lay_more(id: u8, own: &[u8], flags: &mut [bool; 4], octets: &mut [u8; 3], ref
 fn read_rest(
     h: &&[u8],
     cursor: Cursor,
-    flags: &mut [bool; 4],
+    flags: &mut [bool; 3],
     octets: &mut [u8; 3],
     reference: &mut u16,
 ) -> u8
@@ -267,7 +260,7 @@ fn read_rest(
 pub fn walk(h: &[u8], cursor: Cursor, seen: Seen) -> Walked
     ensures { λ r. ⌜ r ≡ walked (now (h .entry)) (cursor .at) seen ⌝ }
 {
-    let mut flags = [false; 4];
+    let mut flags = [false; 3];
     let mut octets = [0; 3];
     let mut reference = 0;
     lay(seen, &mut flags, &mut octets, &mut reference);

@@ -54,7 +54,6 @@ isCommand Response = false
 abbrev seenWritten : Kind → Concatenation → Seen
 seenWritten k c = record {
   wrong = false;
-  twice = false;
   concatenation = c;
   command = eqb (c .number) 1 && isCommand k;
   response = eqb (c .number) 1 && not (isCommand k);

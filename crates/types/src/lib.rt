@@ -16,7 +16,7 @@ pub enum Refusal {
     InputLength,
     // 3: user data that are empty, a header length not below theirs, or an element that runs past the header's end. Taking, reading: messages.
     HeaderOverrun,
-    // 4: a concatenation or packet identifier element of a wrong length, or twice; a page whose number is above its total. Taking, reading.
+    // 4: a concatenation or packet identifier element of a wrong length; a page whose number is above its total. Taking, reading.
     HeaderElement,
     // 5: a packet identifier that is missing, out of place or of the other kind; a page for a record of responses; a message identifier
     // outside 1080 to 109F. Taking, reading, writing a page.
