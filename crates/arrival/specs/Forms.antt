@@ -1,12 +1,13 @@
 -- The headers that 01, "Splitting", gives to single messages and to parts: each is read as it was meant, up to user data that is full.
-use Prim.Native.Nat.{ℕ, suc, _+_, _*_, _≤_}
+use Prim.Native.Nat.{ℕ, suc, _+_, _*_, _≤_, _<_}
 use mathlib.Core.Path.{_≡_, refl, ap, _∙_}
 use mathlib.Core.List.{List, [], _∷_, _++_}
 use mathlib.Core.Bool.{Bool, true, false}
 use mathlib.Core.Option.{some}
 use native.Mathlib.Omega.{arith}
-use lib.ListN.{length, length-append}
-use lib.Seq.{take-append-seam}
+use native.Mathlib.Numerals.{add-one}
+use lib.ListN.{length, drop, length-append, take-append-drop}
+use lib.Seq.{take-append-seam, length-take-le}
 use lib.Dec.{eqb}
 use borrow.Author.Tests.{le-ltb, lt-leb, ne-eqb}
 use Rattle.types.specs.declared.Kind.{Kind}
@@ -18,13 +19,20 @@ use Rattle.header.specs.declared.Concatenation.{Concatenation}
 use Rattle.header.specs.declared.Seen.{Seen}
 use Rattle.arrival.specs.Arrivals.{single, part}
 use Rattle.header.specs.Header.{Item, item, elements, elementsAfter, summary}
-use Rattle.arrival.specs.Message.{mostUserData, alone, mostParts, messageKey, judged, readMessage}
+use Rattle.arrival.specs.Message.{mostUserData, udhl, headerOctets, afterHeader, alone, mostParts, messageKey, judged, readMessage}
 use Rattle.arrival.specs.Keys.{room}
 use Rattle.arrival.specs.Bounds.{bit, room-fills}
 
 -- user data with these header octets and those of its own
 abbrev pub headed : List ℕ → List ℕ → List ℕ
 headed h o = length h ∷ (h ++ o)
+
+-- every user data with a UDHL below its length is of this form
+pub headed-whole : (ud : List ℕ) → udhl ud < length ud → headed (headerOctets ud) (drop (afterHeader ud) ud) ≡ ud
+headed-whole [] l = absurd (omega arith)
+headed-whole (u ∷ r) l =
+    let inside : u ≤ length r = omega arith in
+    rw (length-take-le u r inside, add-one u, take-append-drop u r)
 
 pub headed-read : (k : Kind) (sender : ℕ) (h o : List ℕ) (es : List Item) → elements h ≡ some es → 1 + length h + length o ≤ mostUserData
     → readMessage k sender (headed h o) ≡ judged k sender (length h + 1) (summary es)
