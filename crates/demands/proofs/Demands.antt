@@ -8,6 +8,7 @@ use Rattle.demands.proofs.Wake as wake
 use Rattle.demands.proofs.Crowding as crowding
 use Rattle.demands.proofs.Refusing as refusing
 use Rattle.demands.proofs.Orders as orders
+use Rattle.demands.proofs.Twice as twice
 use Rattle.demands.proofs.RoundTrips as trips
 use Rattle.demands.proofs.Checked as checked
 use Rattle.demands.proofs.SplitTaken as split
@@ -50,6 +51,9 @@ demand-2 = record {
   messages-written = delivery.messages-written;
   pages-written = delivery.pages-written;
   order-free = orders.order-free;
+  read-as-without = twice.read-as-without;
+  taken-as-without = twice.taken-as-without slotCount;
+  last-replaces = twice.last-replaces;
 }
 
 pub demand-3 : Demand3

@@ -1,5 +1,6 @@
 pub mod Examples
 pub mod Orders
+pub mod Twice
 pub mod Lists
 pub mod Calls
 pub mod Track

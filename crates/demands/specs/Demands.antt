@@ -8,6 +8,7 @@ use Rattle.types.specs.declared.Key.{Key}
 use Rattle.slots.specs.Slots.{slotCount}
 use Rattle.demands.specs.Refusing.{TakingRefused, ParsingRefused, BuildingRefused, ChecksumRefused, WritingRefused, PageRefused, UnfitRefused}
 use Rattle.demands.specs.Orders.{OrderFree}
+use Rattle.demands.specs.Twice.{ReadAsWithout, TakenAsWithout, LastReplaces}
 use Rattle.demands.specs.RoundTrips.{BuildThenRead, CommandTells, ReadThenBuild, AnswersBuild, ReadThenBuildCalls, FixedLengths, ChecksumCovers, ParsesOrRefuses, ParsedIsFormed, BuildsOrRefuses, SplitMessages, SplitPages}
 use Rattle.demands.specs.Checked.{CheckBits, StillCarried}
 use Rattle.demands.specs.Wake.{WakeWindow, PacketComes}
@@ -29,7 +30,8 @@ pub record Demand1 : Type 0 where
   pub unfit : UnfitRefused slotCount
 
 -- 2. The rules are 01's, and every public call equals its rule; "building then reading gives the same fields, and reading then building the
--- same octets"; what is split is put together again, by every reader and by taking; the order of a header's elements does not matter.
+-- same octets"; what is split is put together again, by every reader and by taking; the order of a header's elements does not matter, except among the
+-- concatenation elements, of which the last counts.
 pub record Demand2 : Type 0 where
   pub build-then-read : BuildThenRead
   pub command-tells : CommandTells
@@ -52,6 +54,9 @@ pub record Demand2 : Type 0 where
   pub messages-written : MessagesWritten
   pub pages-written : PagesWritten
   pub order-free : OrderFree
+  pub read-as-without : ReadAsWithout
+  pub taken-as-without : TakenAsWithout slotCount
+  pub last-replaces : LastReplaces
 
 -- 3. The wake window, for either kind, every key, every packet and every cut of it; and "at no moment does one key occupy two slots". No
 -- series is displaced while at most three keys are unfinished.

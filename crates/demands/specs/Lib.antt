@@ -1,6 +1,7 @@
 pub mod Demands
 pub mod Examples
 pub mod Orders
+pub mod Twice
 pub mod Lists
 pub mod Runs
 pub mod Wake
