@@ -30,21 +30,24 @@ abbrev pub wideIn : List ℕ → Concatenation
 wideIn o = record { width = 16; reference = numberOf (getD o 0 0) (getD o 1 0); total = getD o 2 0; number = getD o 3 0 }
 
 -- ---- what was seen, and an element more
+abbrev pub seenOf : Bool → Concatenation → Bool → Bool → Seen
+seenOf wrong c command response = record { wrong = wrong; concatenation = c; command = command; response = response }
+
 abbrev pub nothingSeen : Seen
-nothingSeen = record { wrong = false; concatenation = noConcatenation; command = false; response = false }
+nothingSeen = seenOf false noConcatenation false false
 
 abbrev pub wrongSeen : Seen → Seen
-wrongSeen s = record { wrong = true; concatenation = s .concatenation; command = s .command; response = s .response }
+wrongSeen s = seenOf true (s .concatenation) (s .command) (s .response)
 
 -- the concatenation element read last stands in the place of an earlier one
 abbrev pub concatenationSeen : Seen → Concatenation → Seen
-concatenationSeen s c = record { wrong = s .wrong; concatenation = c; command = s .command; response = s .response }
+concatenationSeen s c = seenOf (s .wrong) c (s .command) (s .response)
 
 abbrev pub commandSeen : Seen → Seen
-commandSeen s = record { wrong = s .wrong; concatenation = s .concatenation; command = true; response = s .response }
+commandSeen s = seenOf (s .wrong) (s .concatenation) true (s .response)
 
 abbrev pub responseSeen : Seen → Seen
-responseSeen s = record { wrong = s .wrong; concatenation = s .concatenation; command = s .command; response = true }
+responseSeen s = seenOf (s .wrong) (s .concatenation) (s .command) true
 
 abbrev pub noted : Seen → Item → Seen
 noted s e = record {

@@ -2,7 +2,7 @@
 ghost use mathlib.Core.Path.{_≡_};
 ghost use lib.ListN.{length, drop};
 ghost use Rattle.header.specs.Header.{item};
-ghost use Rattle.header.specs.Reading.{firstElement, narrowIn, wideIn, nothingSeen, wrongSeen, concatenationSeen, commandSeen, responseSeen, added, walked, toldWalked, seenIn, toldRest};
+ghost use Rattle.header.specs.Reading.{firstElement, narrowIn, wideIn, seenOf, nothingSeen, wrongSeen, concatenationSeen, commandSeen, responseSeen, added, walked, toldWalked, seenIn, toldRest};
 
 // What a concatenation element says: the width of its reference in bits, the reference, how many parts there are and which this is.
 pub struct Concatenation {
@@ -102,6 +102,19 @@ fn wide(own: &[u8]) -> Concatenation
 }
 
 impl Seen {
+    // What was seen, by its fields. An element more makes it anew by this call: if it were copied and one field of the copy changed, the compiler would
+    // keep it in memory, with twice the code (docs/PROVING.md, "The stack of a walk").
+    fn of(wrong: bool, concatenation: Concatenation, command: bool, response: bool) -> Self
+        ensures { λ r. ⌜ r ≡ seenOf wrong concatenation command response ⌝ }
+    {
+        Seen {
+            wrong,
+            concatenation,
+            command,
+            response,
+        }
+    }
+
     // What is known of a header before its first element.
     pub fn nothing() -> Self
         ensures { λ r. ⌜ r ≡ nothingSeen ⌝ }
@@ -120,34 +133,30 @@ impl Seen {
     }
 
     // An element that counts is of wrong length: nothing else of it is noted, since the header is refused.
-    fn misfit(mut self) -> Self
+    fn misfit(self) -> Self
         ensures { λ r. ⌜ r ≡ wrongSeen self ⌝ }
     {
-        self.wrong = true;
-        self
+        Seen::of(true, self.concatenation, self.command, self.response)
     }
 
     // A concatenation element takes the place of an earlier one, of either width.
-    fn concatenated(mut self, c: Concatenation) -> Self
+    fn concatenated(self, c: Concatenation) -> Self
         ensures { λ r. ⌜ r ≡ concatenationSeen self c ⌝ }
     {
-        self.concatenation = c;
-        self
+        Seen::of(self.wrong, c, self.command, self.response)
     }
 
     // The packet identifier of commands, and that of responses: given again it says nothing new.
-    fn commanded(mut self) -> Self
+    fn commanded(self) -> Self
         ensures { λ r. ⌜ r ≡ commandSeen self ⌝ }
     {
-        self.command = true;
-        self
+        Seen::of(self.wrong, self.concatenation, true, self.response)
     }
 
-    fn responded(mut self) -> Self
+    fn responded(self) -> Self
         ensures { λ r. ⌜ r ≡ responseSeen self ⌝ }
     {
-        self.response = true;
-        self
+        Seen::of(self.wrong, self.concatenation, self.command, true)
     }
 
     // One more element, with the octets that are its own. Any identifier but four is skipped.
