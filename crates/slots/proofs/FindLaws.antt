@@ -25,8 +25,8 @@ module _ (p : Slot → Bool) where
   find-none [] h = refl
   find-none (x ∷ xs) h = rw (h 0 (omega arith), find-none xs (λ k m. h (suc k) (omega arith)))
 
-  -- none of the slots before i passes
+  -- of the first n slots, none before i passes
   pub record Passed (n : ℕ) (xs : List Slot) (i : ℕ) : Type 0 where
-    pub long : length xs ≡ n
+    pub long : n ≤ length xs
     pub within : i ≤ n
     pub none-yet : (k : ℕ) → k < i → p (slotAt xs k) ≡ false

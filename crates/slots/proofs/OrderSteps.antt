@@ -13,10 +13,10 @@ use borrow.Author.Tests.{ltb-true, lt-ltb, le-ltb}
 use Rattle.octets.specs.Tests.{both}
 use Rattle.types.specs.declared.Slot.{Slot}
 use Rattle.types.specs.declared.Record.{Record}
-use Rattle.slots.specs.Slots.{slotAt, atRank, aged, closed, withSlots}
+use Rattle.slots.specs.Slots.{mostSlots, slotAt, atRank, aged, closed, withSlots, slotsIn}
 use Rattle.slots.specs.Found.{length-of-map}
-use Rattle.slots.specs.Order.{rankAfter, replaced}
-use Rattle.slots.proofs.OrderLaws.{Changed, firstRanked, first-next, first-more, first-all}
+use Rattle.slots.specs.Order.{rankAfter, firstRanked, replaced}
+use Rattle.slots.proofs.OrderLaws.{Changed, first-next, first-more}
 
 -- ---- ranks
 module _ (front : Bool) (r q : ℕ) where
@@ -59,9 +59,9 @@ module _ (front : Bool) (r q : ℕ) where
 
 -- ---- a loop that changes the ranks
 module _ (g : ℕ → ℕ) (n : ℕ) (r : Record) where
-  pub change-starts : length (r .slots) ≡ n → Changed g n r r 0
+  pub change-starts : length (r .slots) ≡ mostSlots → n ≤ mostSlots → Changed g n r r 0
   unfolding firstRanked
-  change-starts e = record { before = e; after = e; within = omega arith; kind = refl; slots = refl }
+  change-starts e l = record { after = e; most = l; within = omega arith; kind = refl; number = refl; slots = refl }
 
   module _ (s : Record) (j : ℕ) (done : Changed g n r s j) where
     next : slotAt (s .slots) j ≡ slotAt (r .slots) j
@@ -70,20 +70,22 @@ module _ (g : ℕ → ℕ) (n : ℕ) (r : Record) where
     pub change-goes-on : (q : ℕ) → j < n → q ≡ g (slotAt (s .slots) j .rank)
         → Changed g n r (withSlots s (set (s .slots) j (atRank q (slotAt (s .slots) j)))) (j + 1)
     change-goes-on q l e = record {
-      before = done .before;
       after = length-set (s .slots) j (atRank q (slotAt (s .slots) j)) ∙ done .after;
+      most = done .most;
       within = omega arith;
       kind = done .kind;
+      number = done .number;
       slots = rw (e, next, done .slots, add-one) (first-more g j (r .slots));
     }
 
 pub change-ends : (n i : ℕ) (front : Bool) (r s : Record) (j : ℕ) (x : Slot) → Changed (rankAfter front (slotAt (r .slots) i .rank)) n r s j
-    → n ≤ j → i < n → withSlots s (set (s .slots) i x) ≡ replaced n front r i x
-change-ends n i front r s j x done l inside =
-    rw (lt-ltb i n inside, done .kind, done .slots, first-all (rankAfter front (slotAt (r .slots) i .rank)) j (r .slots) (omega (arith, done .before)))
+    → n ≡ slotsIn r → n ≤ j → i < n → withSlots s (set (s .slots) i x) ≡ replaced front r i x
+change-ends n i front r s j x done is l inside =
+    let end : j ≡ slotsIn r = omega (arith, done .within) in
+    rw (lt-ltb i (slotsIn r) (omega arith), done .kind, done .number, done .slots, end)
 
-pub none-changed : (n i : ℕ) (front : Bool) (r : Record) (x : Slot) → n ≤ i → r ≡ replaced n front r i x
-none-changed n i front r x l = rw (le-ltb i n l)
+pub none-changed : (n i : ℕ) (front : Bool) (r : Record) (x : Slot) → n ≡ slotsIn r → n ≤ i → r ≡ replaced front r i x
+none-changed n i front r x is l = rw (le-ltb i (slotsIn r) (omega arith))
 
 pub ruleset orderSteps = (
   needs,

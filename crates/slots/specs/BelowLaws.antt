@@ -228,6 +228,18 @@ all-up-to (suc n) t f l = go (all-up-to n t f) (same? t (suc n))
     go ih (same p q) = rw (all-same n (λ i. not (ltb i t) || f i) f (λ i m. low i (omega arith)), low n (omega arith)) (rw q)
     go ih (other p q) = rw (ih (omega arith), le-ltb n t (omega arith)) (and-true (allBelow t f))
 
+-- two tests of each number at once
+pub all-both : (n : ℕ) (f g : ℕ → Bool) → allBelow n (λ i. f i && g i) ≡ allBelow n f && allBelow n g
+unfolding allBelow
+all-both zero f g = refl
+all-both (suc n) f g = rw (all-both n f g) (swap (allBelow n f) (allBelow n g) (f n) (g n))
+  where
+    swap : (a b c d : Bool) → (a && b) && (c && d) ≡ (a && c) && (b && d)
+    swap true true c d = refl
+    swap true false true d = refl
+    swap true false false d = refl
+    swap false b c d = refl
+
 -- tests that differ at 0 alone, where the first asks b as well
 pub all-but-first : (n : ℕ) (f g : ℕ → Bool) (b : Bool) → f 0 ≡ g 0 && b → ((i : ℕ) → 0 < i → f i ≡ g i)
     → allBelow (suc n) f ≡ allBelow (suc n) g && b

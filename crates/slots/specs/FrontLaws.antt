@@ -1,19 +1,19 @@
 -- What coming to the front and freeing do to each slot, and what a search tells.
-use Prim.Native.Nat.{ℕ, zero, suc, _<_}
+use Prim.Native.Nat.{ℕ, zero, suc, _≤_, _<_}
 use mathlib.Core.Path.{_≡_, refl, sym, ap, _∙_}
 use mathlib.Core.Bool.{Bool, true, false, cond, _&&_}
 use mathlib.Core.List.{List, [], _∷_, map}
 use mathlib.Core.Option.{Option, none, some}
 use native.Mathlib.Omega.{arith}
 use native.Mathlib.Nat.{le-of-suc-le-suc}
-use lib.ListN.{length, getD, length-map, length-set, List·getD-map}
-use lib.Seq.{getD-set-same, getD-set-other}
+use lib.ListN.{length, take, getD, length-map, length-set, List·getD-map}
+use lib.Seq.{getD-set-same, getD-set-other, length-take-le}
 use lib.Dec.{eqb}
 use borrow.Author.Tests.{eqb-true, eq-eqb}
 use Rattle.octets.specs.Tests.{both}
 use Rattle.types.specs.declared.Key.{Key}
 use Rattle.types.specs.declared.Slot.{Slot}
-use Rattle.slots.specs.Slots.{noKey, slotAt, freeSlot, sameKey, atRank, aged, agedSlot, closedSlot, toFront, freed, later, find}
+use Rattle.slots.specs.Slots.{noKey, slotAt, freeSlot, sameKey, atRank, aged, agedSlot, closedSlot, toFront, freed, later, find, findIn}
 use Rattle.slots.specs.RankLaws.{closed-near}
 
 -- the slot that stands past the end of a list
@@ -88,3 +88,28 @@ find? p (x ∷ xs) = go (p x) refl (find p xs) (find? p xs)
     go true q r f = hit 0 (omega arith) q (λ j l. absurd (omega arith))
     go false q r (hit i l t f) = hit (suc i) (omega arith) t (earlier i q f)
     go false q r (miss f) = miss (earlier (length xs) q f)
+
+-- of a record's own slots, where it has n of them
+pub data FoundIn (n : ℕ) (p : Slot → Bool) (xs : List Slot) : Option ℕ → Type 0 where
+  hit-in : (i : ℕ) → i < n → p (slotAt xs i) ≡ true → ((j : ℕ) → j < i → p (slotAt xs j) ≡ false) → FoundIn n p xs (some i)
+  miss-in : ((j : ℕ) → j < n → p (slotAt xs j) ≡ false) → FoundIn n p xs none
+
+-- the first n are those of the list
+pub slot-in : (n : ℕ) (xs : List Slot) (i : ℕ) → i < n → slotAt (take n xs) i ≡ slotAt xs i
+slot-in zero xs i l = absurd (omega arith)
+slot-in (suc n) [] i l = refl
+slot-in (suc n) (x ∷ xs) zero l = refl
+slot-in (suc n) (x ∷ xs) (suc i) l = slot-in n xs i (le-of-suc-le-suc l)
+
+pub find-in? : (n : ℕ) (p : Slot → Bool) (xs : List Slot) → n ≤ length xs → FoundIn n p xs (findIn n p xs)
+find-in? n p xs enough = go (find p (take n xs)) (find? p (take n xs))
+  where
+    size : length (take n xs) ≡ n
+    size = length-take-le n xs enough
+
+    was : (j : ℕ) → j < n → p (slotAt (take n xs) j) ≡ p (slotAt xs j)
+    was j l = ap p (slot-in n xs j l)
+
+    go : (r : Option ℕ) → Found p (take n xs) r → FoundIn n p xs r
+    go r (hit i l t f) = hit-in i (omega (arith, size)) (sym (was i (omega (arith, size))) ∙ t) (λ j m. sym (was j (omega (arith, size))) ∙ f j m)
+    go r (miss f) = miss-in (λ j l. sym (was j l) ∙ f j (omega (arith, size)))

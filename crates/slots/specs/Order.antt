@@ -1,41 +1,73 @@
 -- What the call on the order of recency comes to on every input: also where i is no slot of the record, and at a rank that no slot of a
 -- well-formed record has. Where neither is so it comes to `toFront` and to `freed`, by the laws at the end.
-use Prim.Native.Nat.{ℕ, suc, _<_}
-use mathlib.Core.Path.{_≡_, refl}
+use Prim.Native.Nat.{ℕ, zero, suc, _≤_, _<_}
+use mathlib.Core.Path.{_≡_, refl, sym, ap, _∙_}
 use mathlib.Core.Bool.{Bool, true, false, cond}
 use mathlib.Core.List.{List, [], _∷_, map}
+use native.Mathlib.Omega.{arith}
 use lib.ListN.{set}
 use lib.Dec.{ltb}
-use borrow.Author.Tests.{lt-ltb}
+use borrow.Author.Tests.{lt-ltb, le-ltb}
 use Rattle.types.specs.declared.Slot.{Slot}
 use Rattle.types.specs.declared.Record.{Record}
-use Rattle.slots.specs.Slots.{slotAt, freeSlot, atRank, aged, closed, agedSlot, toFront, freed, withSlots}
+use Rattle.slots.specs.Slots.{slotAt, freeSlot, atRank, aged, closed, agedSlot, toFront, freed, withSlots, slotsIn}
 
 -- rank q once a slot of rank r has come to the front, or was freed; rank 255, behind which an octet has no other, stays
 abbrev pub rankAfter : Bool → ℕ → ℕ → ℕ
 rankAfter true r q = cond (ltb q 255) (aged r q) q
 rankAfter false r q = closed r q
 
--- Slot i becomes x, and each other slot is at its rank once slot i has come to the front, or was freed. Where i is none of the n slots, the
--- record stays as it is.
-abbrev pub replaced : ℕ → Bool → Record → ℕ → Slot → Record
-replaced n front r i x =
-    cond (ltb i n)
-    (withSlots r (set (map (λ y. atRank (rankAfter front (slotAt (r .slots) i .rank) (y .rank)) y) (r .slots)) i x))
+-- the slots, the first j of them at the rank that g makes of their rank
+abbrev pub reranked : (ℕ → ℕ) → Slot → Slot
+reranked g x = atRank (g (x .rank)) x
+
+unfoldable pub firstRanked : (ℕ → ℕ) → ℕ → List Slot → List Slot
+firstRanked g zero xs = xs
+firstRanked g (suc j) [] = []
+firstRanked g (suc j) (x ∷ xs) = reranked g x ∷ firstRanked g j xs
+
+-- Slot i becomes x, and each other slot of the record is at its rank once slot i has come to the front, or was freed. Where i is none of its
+-- slots, the record stays as it is.
+abbrev pub replaced : Bool → Record → ℕ → Slot → Record
+replaced front r i x =
+    cond (ltb i (slotsIn r))
+    (withSlots r (set (firstRanked (rankAfter front (slotAt (r .slots) i .rank)) (slotsIn r) (r .slots)) i x))
     r
 
--- ---- where i is a slot and every rank is below 255
-aged-all : (r : ℕ) (xs : List Slot) → ((j : ℕ) → slotAt xs j .rank < 255)
-    → map (λ y. atRank (rankAfter true r (y .rank)) y) xs ≡ map (agedSlot r) xs
+-- ---- where i is a slot, every rank is below 255, and the slots past the record's own are free
+-- the rank of a free slot stays
+kept-free : (front : Bool) (r : ℕ) → rankAfter front r 0 ≡ 0
+unfolding aged closed
+kept-free true r = refl
+kept-free false r = rw (le-ltb r 0 (omega arith))
+
+free-ranked : (g : ℕ → ℕ) (x : Slot) → g 0 ≡ 0 → x .rank ≡ 0 → x ≡ reranked g x
+free-ranked g x z e = ap (λ q. atRank q x) (e ∙ sym (ap g e ∙ z))
+
+-- those past the first n are free, so it comes to the same whether they are counted in or not
+first-all : (g : ℕ → ℕ) → g 0 ≡ 0 → (n : ℕ) (xs : List Slot) → ((j : ℕ) → n ≤ j → slotAt xs j .rank ≡ 0) → firstRanked g n xs ≡ map (reranked g) xs
+unfolding firstRanked
+first-all g z zero [] free = refl
+first-all g z zero (x ∷ xs) free =
+    let tail : xs ≡ map (reranked g) xs = first-all g z zero xs (λ j l. free (suc j) (omega arith)) in
+    λ i. free-ranked g x z (free 0 (omega arith)) i ∷ tail i
+first-all g z (suc n) [] free = refl
+first-all g z (suc n) (x ∷ xs) free = ap (λ l. reranked g x ∷ l) (first-all g z n xs (λ j l. free (suc j) (omega arith)))
+
+aged-all : (r : ℕ) (xs : List Slot) → ((j : ℕ) → slotAt xs j .rank < 255) → map (reranked (rankAfter true r)) xs ≡ map (agedSlot r) xs
 aged-all r [] low = refl
 aged-all r (x ∷ xs) low = rw (lt-ltb (x .rank) 255 (low 0), aged-all r xs (λ j. low (suc j)))
 
-module _ (n : ℕ) (r : Record) (i : ℕ) (inside : i < n) where
-  pub front-in : (x : Slot) → ((j : ℕ) → slotAt (r .slots) j .rank < 255)
-      → replaced n true r i (atRank 1 x) ≡ withSlots r (toFront (r .slots) i x)
-  unfolding toFront
-  front-in x low = rw (lt-ltb i n inside, aged-all (slotAt (r .slots) i .rank) (r .slots) low)
+module _ (r : Record) (i : ℕ) (inside : i < slotsIn r) (free : (j : ℕ) → slotsIn r ≤ j → slotAt (r .slots) j .rank ≡ 0) where
+  all-ranked : (front : Bool) (q : ℕ) → firstRanked (rankAfter front q) (slotsIn r) (r .slots) ≡ map (reranked (rankAfter front q)) (r .slots)
+  all-ranked front q = first-all (rankAfter front q) (kept-free front q) (slotsIn r) (r .slots) free
 
-  pub freed-in : replaced n false r i freeSlot ≡ withSlots r (freed (r .slots) i)
+  pub front-in : (x : Slot) → ((j : ℕ) → slotAt (r .slots) j .rank < 255)
+      → replaced true r i (atRank 1 x) ≡ withSlots r (toFront (r .slots) i x)
+  unfolding toFront
+  front-in x low =
+      rw (lt-ltb i (slotsIn r) inside, all-ranked true (slotAt (r .slots) i .rank), aged-all (slotAt (r .slots) i .rank) (r .slots) low)
+
+  pub freed-in : replaced false r i freeSlot ≡ withSlots r (freed (r .slots) i)
   unfolding freed
-  freed-in = rw (lt-ltb i n inside)
+  freed-in = rw (lt-ltb i (slotsIn r) inside, all-ranked false (slotAt (r .slots) i .rank))

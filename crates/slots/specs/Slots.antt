@@ -1,19 +1,27 @@
--- Slots, keys and recency (01, "Series"). The number of slots is a parameter of every rule.
+-- Slots, keys and recency (01, "Series"; 02 [5]). The number of slots is a parameter of every rule.
 use Prim.Native.Nat.{ℕ, suc, pred, _-_}
 use mathlib.Core.Bool.{Bool, true, false, not, cond, _&&_, _||_}
 use mathlib.Core.List.{List, [], _∷_, map}
 use mathlib.Core.Option.{Option, none, some}
-use lib.ListN.{getD, set, replicate}
+use lib.ListN.{getD, set, replicate, take}
 use lib.Dec.{eqb, ltb}
 use Rattle.types.specs.declared.Kind.{Kind}
 use Rattle.types.specs.declared.Key.{Key}
 use Rattle.arrival.specs.Message.{mostParts}
 use Rattle.types.specs.declared.Slot.{Slot}
 use Rattle.types.specs.declared.Record.{Record}
+use Rattle.types.specs.declared.Making as declared
+use Rattle.types.specs.Refusals.{Outcome, refused, gives, refusalNumber}
 
--- "Three slots": the number is said here, and nowhere else.
-abbrev pub slotCount : ℕ
-slotCount = 3
+-- "The number of slots becomes a choice of 1 to 5 when a record is made, and the default becomes five." (02 [5])
+abbrev pub mostSlots : ℕ
+mostSlots = 5
+
+abbrev pub defaultSlots : ℕ
+defaultSlots = 5
+
+abbrev pub isSlotNumber : ℕ → Bool
+isSlotNumber n = not (eqb n 0) && not (ltb mostSlots n)
 
 -- ---- a slot
 abbrev pub noKey : Key
@@ -78,8 +86,12 @@ abbrev pub slotOr : ℕ → Option ℕ → ℕ
 slotOr d none = d
 slotOr d (some i) = i
 
+-- Of a record with n slots, only the first n are looked at.
+abbrev pub findIn : ℕ → (Slot → Bool) → List Slot → Option ℕ
+findIn n p xs = find p (take n xs)
+
 abbrev pub leastRecent : ℕ → List Slot → ℕ
-leastRecent n xs = slotOr 0 (find (isLeastRecent n) xs)
+leastRecent n xs = slotOr 0 (findIn n (isLeastRecent n) xs)
 
 -- ---- recency
 -- Rank q after a slot of rank r has come to the front: what was more recent than it is one less so; a free slot, of rank 0, was less recent
@@ -108,8 +120,28 @@ freed xs i = set (map (closedSlot (slotAt xs i .rank)) xs) i freeSlot
 
 -- ---- a record
 abbrev pub withSlots : Record → List Slot → Record
-withSlots r xs = record { kind = r .kind; slots = xs }
+withSlots r xs = record { kind = r .kind; count = r .count; slots = xs }
 
--- "A record is fresh for one kind, commands or responses."
+-- How many slots a record has: as many as its number says. A number above five says no more than five, since there are no others.
+abbrev pub slotsIn : Record → ℕ
+slotsIn r = cond (ltb mostSlots (r .count)) mostSlots (r .count)
+
+-- "A record is fresh for one kind, commands or responses." It has n slots, "slots past these all zero" as its own are.
 abbrev pub freshRecord : ℕ → Kind → Record
-freshRecord n k = record { kind = k; slots = replicate n freeSlot }
+freshRecord n k = record { kind = k; count = n; slots = replicate mostSlots freeSlot }
+
+-- ---- making a record
+-- what making a record comes to: the refusal, if there is one, and the record that stands beside the answer
+abbrev pub Beside : Type 0
+Beside = Outcome Unit × Record
+
+abbrev pub beside : Outcome Unit → Record → Beside
+beside answer r = (answer, r)
+
+abbrev pub toldMaking : declared.Making → Outcome Unit
+toldMaking declared.the-variants.Fresh = gives tt
+toldMaking (declared.the-variants.Refused r) = refused (refusalNumber r)
+
+-- 25: "for a record asked with 0 or more than five slots". Beside it stands a record without slots, all zero, which no call accepts.
+abbrev pub making : ℕ → Kind → Beside
+making n k = cond (isSlotNumber n) (beside (gives tt) (freshRecord n k)) (beside (refused 25) (freshRecord 0 k))

@@ -1,16 +1,19 @@
-// The slots of a record: a fresh one, which is free, and which bears a key (01, "Series"). Each search goes over the slots
-// by index, so another number of slots is another `SLOTS`.
+// The slots of a record: a fresh one, which is free, and which bears a key (01, "Series"). Each search goes over the record's own slots by
+// index, and does not look at those past its number.
 use types::Key;
 use types::Kind;
+use types::Made;
+use types::Making;
 use types::MessageIdentifier;
 use types::PARTS;
 use types::Record;
+use types::Refusal;
 use types::SLOTS;
 use types::SerialNumber;
 use types::Slot;
 ghost use mathlib.Core.Path.{_≡_};
-ghost use Prim.Native.Nat.{_<_};
-ghost use Rattle.slots.specs.Slots.{slotCount, opened, freeSlot, sameKey, bears, isFree, find, isLeastRecent, leastRecent, freshRecord};
+ghost use Prim.Native.Nat.{_≤_, _<_};
+ghost use Rattle.slots.specs.Slots.{mostSlots, defaultSlots, opened, freeSlot, sameKey, bears, isFree, findIn, isLeastRecent, leastRecent, slotsIn, freshRecord, beside, toldMaking, making};
 ghost use Rattle.slots.specs.Found.{toldFound, Inside, newSeat, seatOf, withPartIn};
 
 // Which slot a search found.
@@ -53,16 +56,51 @@ pub fn free_slot() -> Slot
     opened(key, 0)
 }
 
-// A record with no series, for one kind of packets.
-pub fn fresh(kind: Kind) -> Record
-    ensures { λ r. ⌜ r ≡ freshRecord slotCount kind ⌝ }
+// A record with no series, for one kind of packets, whose number of slots is n.
+fn numbered(kind: Kind, n: u8) -> Record
+    ensures { λ r. ⌜ r ≡ freshRecord n kind ⌝ }
 {
     let x = free_slot();
     let slots = [x; SLOTS];
     Record {
         kind: kind,
+        count: n,
         slots: slots,
     }
+}
+
+// A record with no series, for one kind of packets, with five slots.
+pub fn fresh(kind: Kind) -> Record
+    ensures { λ r. ⌜ r ≡ freshRecord defaultSlots kind ⌝ }
+{
+    numbered(kind, SLOTS as u8)
+}
+
+// The same with n slots, 1 to 5; any other number is refused, and the record beside the refusal is one that no call accepts.
+pub fn fresh_with(kind: Kind, n: u8) -> Made
+    ensures { λ r. ⌜ beside (toldMaking (r .answer)) (r .record) ≡ making n kind ⌝ }
+{
+    if (n != 0) & !((SLOTS as u8) < n) {
+        return Made {
+            answer: Making::Fresh,
+            record: numbered(kind, n),
+        };
+    }
+    Made {
+        answer: Making::Refused(Refusal::SlotNumber),
+        record: numbered(kind, 0),
+    }
+}
+
+// How many slots the record has.
+pub fn slots_in(state: Record) -> usize
+    ensures { λ r. ⌜ (r ≡ slotsIn state) × (r ≤ mostSlots) ⌝ }
+{
+    let n = state.count as usize;
+    if SLOTS < n {
+        return SLOTS;
+    }
+    n
 }
 
 // The slot with part `number`, of n octets; if no part has that number, the slot as it is.
@@ -103,11 +141,12 @@ fn bears(key: Key, x: Slot) -> bool
 
 // The slot of the series with that key.
 fn find_key(state: Record, key: Key) -> Found
-    ensures { λ r. ⌜ toldFound r ≡ find (bears key) (state .slots) ⌝ }
-    ensures { λ r. ⌜ Inside slotCount r ⌝ }
+    ensures { λ r. ⌜ toldFound r ≡ findIn (slotsIn state) (bears key) (state .slots) ⌝ }
+    ensures { λ r. ⌜ Inside mostSlots r ⌝ }
 {
+    let n = slots_in(state);
     let mut i = 0;
-    while i < SLOTS {
+    while i < n {
         let x = state.slots[i];
         if bears(key, x) {
             return Found::At(i);
@@ -119,11 +158,12 @@ fn find_key(state: Record, key: Key) -> Found
 
 // The first slot of rank r.
 fn find_rank(state: Record, r: u8) -> Found
-    ensures { λ f. ⌜ toldFound f ≡ find (isLeastRecent r) (state .slots) ⌝ }
-    ensures { λ f. ⌜ Inside slotCount f ⌝ }
+    ensures { λ f. ⌜ toldFound f ≡ findIn (slotsIn state) (isLeastRecent r) (state .slots) ⌝ }
+    ensures { λ f. ⌜ Inside mostSlots f ⌝ }
 {
+    let n = slots_in(state);
     let mut i = 0;
-    while i < SLOTS {
+    while i < n {
         let x = state.slots[i];
         let here = x.rank == r;
         if here {
@@ -136,17 +176,17 @@ fn find_rank(state: Record, r: u8) -> Found
 
 // The lowest free slot.
 fn find_free(state: Record) -> Found
-    ensures { λ r. ⌜ toldFound r ≡ find isFree (state .slots) ⌝ }
-    ensures { λ r. ⌜ Inside slotCount r ⌝ }
+    ensures { λ r. ⌜ toldFound r ≡ findIn (slotsIn state) isFree (state .slots) ⌝ }
+    ensures { λ r. ⌜ Inside mostSlots r ⌝ }
 {
     find_rank(state, 0)
 }
 
 // The slot of the least recent series, if all are used.
 fn least_recent(state: Record) -> usize
-    ensures { λ r. ⌜ (r ≡ leastRecent slotCount (state .slots)) × (r < slotCount) ⌝ }
+    ensures { λ r. ⌜ (r ≡ leastRecent (slotsIn state) (state .slots)) × (r < mostSlots) ⌝ }
 {
-    match find_rank(state, SLOTS as u8) {
+    match find_rank(state, slots_in(state) as u8) {
         Found::At(i) => i,
         Found::Nothing => 0,
     }
@@ -154,7 +194,7 @@ fn least_recent(state: Record) -> usize
 
 // Where a new series goes: the lowest free slot, or with none free that of the least recent series.
 fn new_seat(state: Record) -> Seat
-    ensures { λ r. ⌜ (r ≡ newSeat slotCount (state .slots)) × (r .slot < slotCount) ⌝ }
+    ensures { λ r. ⌜ (r ≡ newSeat (slotsIn state) (state .slots)) × (r .slot < mostSlots) ⌝ }
 {
     match find_free(state) {
         Found::At(i) => Seat {
@@ -172,7 +212,7 @@ fn new_seat(state: Record) -> Seat
 
 // Where the series with that key is, or else where a new one goes.
 pub fn seat_of(state: Record, key: Key) -> Seat
-    ensures { λ r. ⌜ (r ≡ seatOf slotCount (state .slots) key) × (r .slot < slotCount) ⌝ }
+    ensures { λ r. ⌜ (r ≡ seatOf (slotsIn state) (state .slots) key) × (r .slot < mostSlots) ⌝ }
 {
     match find_key(state, key) {
         Found::At(i) => Seat {

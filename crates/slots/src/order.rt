@@ -1,10 +1,9 @@
-// The order of recency (01, "Series"): a slot comes to the front, or is freed, and the others keep their order. The loop goes over the slots
-// by index.
+// The order of recency (01, "Series"): a slot comes to the front, or is freed, and the others keep their order. The loop goes over the
+// record's own slots by index.
+use crate::find::slots_in;
 use types::Record;
-use types::SLOTS;
 use types::Slot;
 ghost use mathlib.Core.Path.{_≡_};
-ghost use Rattle.slots.specs.Slots.{slotCount};
 ghost use Rattle.slots.specs.Order.{rankAfter, replaced};
 
 // Rank q after a slot of rank r has come to the front, or was freed. No rank is counted past 255.
@@ -23,15 +22,16 @@ fn rank_after(front: bool, r: u8, q: u8) -> u8
 // The record with x in slot i, and the other slots at the ranks that they have once slot i has come to the front, or was freed. If there
 // is no slot i, the record as it is.
 pub fn replaced(mut state: Record, i: usize, front: bool, x: Slot) -> Record
-    ensures { λ r. ⌜ r ≡ replaced slotCount front state i x ⌝ }
+    ensures { λ r. ⌜ r ≡ replaced front state i x ⌝ }
 {
-    if SLOTS <= i {
+    let n = slots_in(state);
+    if n <= i {
         return state;
     }
     let old = state.slots[i];
     let r = old.rank;
     let mut j = 0;
-    while j < SLOTS {
+    while j < n {
         let mut y = state.slots[j];
         y.rank = rank_after(front, r, y.rank);
         state.slots[j] = y;

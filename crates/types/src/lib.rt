@@ -43,6 +43,8 @@ pub enum Refusal {
     // 15: the check bits of a plain command's SPI say that nothing is checked and there is a check field, or the other way round. Parsing,
     // building, checksum octets: commands.
     CheckMismatch,
+    // 25: a record asked for with no slots, or with more than five. Making a record.
+    SlotNumber,
 }
 
 impl Refusal {
@@ -66,6 +68,7 @@ impl Refusal {
             Refusal::ReferenceWidth => 13,
             Refusal::PartNumber => 14,
             Refusal::CheckMismatch => 15,
+            Refusal::SlotNumber => 25,
         }
     }
 }
@@ -181,8 +184,8 @@ pub enum Arrival {
 }
 
 // ---- series
-// The number of slots in a record, and of parts in a slot.
-pub const SLOTS: usize = 3;
+// The most slots of a record, which it has if its maker names no number; and the parts of a slot.
+pub const SLOTS: usize = 5;
 
 pub const PARTS: usize = 16;
 
@@ -195,10 +198,23 @@ pub struct Slot {
     pub held: [bool; PARTS],
 }
 
-// The unfinished series of one kind.
+// The unfinished series of one kind. The first `count` slots are the record's own, 1 to 5 of them; those past them are all zero.
 pub struct Record {
     pub kind: Kind,
+    pub count: u8,
     pub slots: [Slot; SLOTS],
+}
+
+// What making a record with a number of slots answers.
+pub enum Making {
+    Fresh,
+    Refused(Refusal),
+}
+
+// The answer, and the record. Beside a refusal it is one without slots, all zero, which no call accepts.
+pub struct Made {
+    pub answer: Making,
+    pub record: Record,
 }
 
 // What taking a message or a page answers.
@@ -222,8 +238,11 @@ pub const PACKET_OCTETS: usize = 2142;
 // The buffer of checksum octets: the longest packet, and three octets before it.
 pub const CHECKSUM_OCTETS: usize = PACKET_OCTETS + 3;
 
-// The cells: one for each part of each slot, as long as a part can be.
-pub const CELLS_OCTETS: usize = SLOTS * PARTS * PART_OCTETS;
+// The cells of one slot: one for each part, as long as a part can be. A record needs as many times these as it has slots.
+pub const SLOT_OCTETS: usize = PARTS * PART_OCTETS;
+
+// The cells of a record with five slots.
+pub const CELLS_OCTETS: usize = SLOTS * SLOT_OCTETS;
 
 // The most octets of user data, and of a part of a short message behind its header; those of a page, and of its content.
 
