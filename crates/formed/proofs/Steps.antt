@@ -16,10 +16,12 @@ use Rattle.arrival.specs.Page.{identifierInRange, noPages, pageContent}
 use Rattle.arrival.specs.Keys.{ofPages, referenceFits, messageKeyFormed, pageKeyFormed, keyFormed, totalFits, room, lengthFits}
 use Rattle.types.specs.declared.Slot.{Slot}
 use Rattle.slots.specs.Below.{allBelow}
-use Rattle.slots.specs.BelowLaws.{fault-from, fault-more, fault-through, all-but-first, all-from, all-more, all-through, any-from, any-more, any-through, count-from, count-more, count-through}
-use Rattle.slots.specs.Slots.{slotAt, used, sameKey}
-use Rattle.formed.specs.Formed.{sixteen, markAt, sizeAt, zeroKey, zeroPart, allZero, partFormed, heldCount, usedFormed, slotFormed, keyTwice, keysDiffer, usedCount, isRank, ranked, slotsFormed}
-use Rattle.formed.specs.Pieces.{fewest, most, partWithin, slotsHold, keyDiffers}
+use Rattle.slots.specs.BelowLaws.{all-both, fault-from, fault-more, fault-through, all-but-first, all-from, all-more, all-through, any-from, any-more, any-through, count-from, count-more, count-through}
+use Rattle.types.specs.declared.Record.{Record}
+use Rattle.slots.specs.Slots.{mostSlots, slotAt, used, isFree, sameKey}
+use Rattle.formed.specs.Formed.{sixteen, markAt, sizeAt, zeroKey, zeroPart, allZero, partFormed, heldCount, usedFormed, slotFormed, keyTwice, keysDiffer, usedCount, isRank, ranked, slotsFormed, recordFormed}
+use Rattle.formed.specs.Laws.{number-tells}
+use Rattle.formed.specs.Pieces.{fewest, most, partWithin, slotHolds, slotsHold, keyDiffers}
 use Rattle.slots.specs.Found.{length-of-map}
 
 -- ---- keys
@@ -188,10 +190,25 @@ module _ (xs : List Slot) where
   unfolding ranked
   ranked-told n m r ok c e l h = rw (← c) (all-through (λ r. isRank n xs (r + 1)) r m l h ok e)
 
-  pub formed-told : (n : ℕ) (k : Kind) (a b c : Bool) → length xs ≡ n → a ≡ slotsHold n k xs → b ≡ keysDiffer n xs
-      → c ≡ ranked n xs → a && b && c ≡ slotsFormed n k xs
-  unfolding slotsFormed
-  formed-told n k a b c l p q r = rw (eq-eqb (length xs) n l, p, q, r)
+  pub slot-more : (n i : ℕ) (k : Kind) (ok b : Bool) → ok ≡ allBelow i (slotHolds n k xs) → b ≡ slotFormed k (slotAt xs i)
+      → ok && (b && (ltb i n || isFree (slotAt xs i))) ≡ allBelow (i + 1) (slotHolds n k xs)
+  slot-more n i k ok b e f = all-more (slotHolds n k xs) i ok _ e (rw f)
+
+pub formed-told : (r : Record) (a b c : Bool) → (not (eqb (r .count) 0) && not (ltb mostSlots (r .count))) ≡ true → length (r .slots) ≡ mostSlots
+    → a ≡ slotsHold (r .count) (r .kind) (r .slots) → b ≡ keysDiffer (r .count) (r .slots) → c ≡ ranked (r .count) (r .slots)
+    → a && b && c ≡ recordFormed (r .count) r
+unfolding slotsFormed
+formed-told r a b c t l p q s =
+    let each : ℕ → Bool = λ i. slotFormed (r .kind) (slotAt (r .slots) i) in
+    let free : ℕ → Bool = λ i. ltb i (r .count) || isFree (slotAt (r .slots) i) in
+    rw (eq-eqb (r .count) (r .count) refl, t, eq-eqb (length (r .slots)) mostSlots l, p, q, s, all-both mostSlots each free)
+
+pub number-inside : (n : ℕ) → (not (eqb n 0) && not (ltb mostSlots n)) ≡ true → n ≤ mostSlots
+number-inside n t = number-tells n t .1
+
+pub not-formed : (r : Record) → (not (eqb (r .count) 0) && not (ltb mostSlots (r .count))) ≡ false → false ≡ recordFormed (r .count) r
+unfolding slotsFormed
+not-formed r t = rw (eq-eqb (r .count) (r .count) refl, t)
 
 pub ruleset formedSteps = (
   needs,
@@ -227,6 +244,9 @@ pub ruleset formedSteps = (
   slot-used,
   differ-more,
   differ-told,
+  slot-more,
+  not-formed,
+  number-inside,
   ranked-told,
   formed-told,
 )

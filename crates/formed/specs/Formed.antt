@@ -1,6 +1,6 @@
--- Which records are well formed (01, "Numbers"): those that the library can have made.
+-- Which records are well formed (01, "Numbers"; 02 [5]): those that the library can have made.
 use Prim.Native.Nat.{ℕ, _+_}
-use mathlib.Core.Bool.{Bool, false, not, cond, _&&_}
+use mathlib.Core.Bool.{Bool, false, not, cond, _&&_, _||_}
 use mathlib.Core.List.{List}
 use lib.ListN.{length, getD}
 use lib.Dec.{eqb, ltb}
@@ -11,7 +11,7 @@ use Rattle.arrival.specs.Keys.{keyFormed, totalFits, lengthFits}
 use Rattle.types.specs.declared.Slot.{Slot}
 use Rattle.types.specs.declared.Record.{Record}
 use Rattle.slots.specs.Below.{allBelow, anyBelow, countBelow}
-use Rattle.slots.specs.Slots.{slotAt, used, sameKey}
+use Rattle.slots.specs.Slots.{mostSlots, isSlotNumber, slotAt, used, isFree, sameKey}
 
 -- "each with sixteen part lengths and sixteen held marks"
 abbrev pub sixteen : Slot → Bool
@@ -69,9 +69,15 @@ isRank n xs r = anyBelow n (λ i. eqb (slotAt xs i .rank) r)
 unfoldable pub ranked : ℕ → List Slot → Bool
 ranked n xs = allBelow (usedCount n xs) (λ r. isRank n xs (r + 1))
 
+-- "A well-formed record has 1 to 5, slots past these all zero" (02 [5]): they are free, and a free slot is all zero
+abbrev pub restFree : ℕ → List Slot → Bool
+restFree n xs = allBelow mostSlots (λ i. ltb i n || isFree (slotAt xs i))
+
 unfoldable pub slotsFormed : ℕ → Kind → List Slot → Bool
 slotsFormed n k xs =
-    eqb (length xs) n && allBelow n (λ i. slotFormed k (slotAt xs i)) && keysDiffer n xs && ranked n xs
+    isSlotNumber n && eqb (length xs) mostSlots && allBelow mostSlots (λ i. slotFormed k (slotAt xs i)) && restFree n xs && keysDiffer n xs
+    && ranked n xs
 
+-- a record of n slots
 abbrev pub recordFormed : ℕ → Record → Bool
-recordFormed n r = slotsFormed n (r .kind) (r .slots)
+recordFormed n r = eqb (r .count) n && slotsFormed n (r .kind) (r .slots)

@@ -1,12 +1,12 @@
 -- A well-formed record, clause by clause; and that coming to the front, keeping a part and freeing leave it well formed.
-use Prim.Native.Nat.{ℕ, _<_}
+use Prim.Native.Nat.{ℕ, _≤_, _<_}
 use mathlib.Core.Path.{_≡_, refl, sym, ap, _∙_}
-use mathlib.Core.Bool.{Bool, true, false, not, cond, _&&_}
+use mathlib.Core.Bool.{Bool, true, false, not, cond, _&&_, _||_}
 use mathlib.Core.List.{List}
 use native.Mathlib.Omega.{arith}
-use lib.ListN.{length, replicate, length-replicate, getD-replicate}
+use lib.ListN.{length, length-replicate, getD-replicate}
 use lib.Dec.{eqb, ltb}
-use borrow.Author.Tests.{eqb-true, eq-eqb, ne-eqb, ltb-true, ltb-false, lt-ltb, not-true}
+use borrow.Author.Tests.{eqb-true, eq-eqb, ne-eqb, ltb-true, ltb-false, lt-ltb, le-ltb, not-true, not-false}
 use Rattle.octets.specs.Tests.{clash, both, Same, same, other, same?}
 use Rattle.types.specs.declared.Kind.{Kind}
 use Rattle.arrival.specs.Message.{mostParts}
@@ -14,7 +14,7 @@ use Rattle.arrival.specs.Keys.{keyFormed, totalFits}
 use Rattle.types.specs.declared.Slot.{Slot}
 use Rattle.slots.specs.Below.{allBelow, countBelow}
 use Rattle.slots.specs.BelowLaws.{all-at, all-hold, count-zero}
-use Rattle.slots.specs.Slots.{slotAt, freeSlot, used, sameKey, atRank, aged, closed, toFront, freed}
+use Rattle.slots.specs.Slots.{mostSlots, isSlotNumber, slotAt, freeSlot, used, isFree, sameKey, atRank, aged, closed, toFront, freed, freshRecord}
 use Rattle.formed.specs.Formed as rule
 use Rattle.formed.specs.Formed.{partFormed, heldCount, usedFormed, allZero, slotFormed, keysDiffer, ranked, slotsFormed}
 use Rattle.slots.specs.RankLaws.{Ranked, pos-taken, aged-taken, closed-taken, front-ranked, free-ranked}
@@ -65,25 +65,50 @@ slot-front k x w =
     (record { key = w .key; total = w .total; parts = w .parts; some = w .some; more = w .more; lengths = w .lengths; marks = w .marks })
 
 -- ---- the record
+-- that it has 1 to 5 slots, of an array of five; the first n; and those past them
 pub record Formed (n : ℕ) (k : Kind) (xs : List Slot) : Type 0 where
-  pub size : length xs ≡ n
+  pub low : 1 ≤ n
+  pub high : n ≤ mostSlots
+  pub array : length xs ≡ mostSlots
   pub slots : (i : ℕ) → i < n → slotFormed k (slotAt xs i) ≡ true
   pub keys : (i j : ℕ) → i < n → j < n → 0 < slotAt xs i .rank → 0 < slotAt xs j .rank → slotAt xs i .key ≡ slotAt xs j .key → i ≡ j
   pub ranks : Ranked n (λ i. slotAt xs i .rank)
+  pub rest : (i : ℕ) → n ≤ i → i < mostSlots → (slotFormed k (slotAt xs i) ≡ true) × (slotAt xs i .rank ≡ 0)
+
+-- a slot of the record is one of the array
+pub array-holds : (n : ℕ) (k : Kind) (xs : List Slot) → Formed n k xs → n ≤ length xs
+array-holds n k xs w = omega (arith, w .high, w .array)
+
+pub number-tells : (n : ℕ) → isSlotNumber n ≡ true → (1 ≤ n) × (n ≤ mostSlots)
+number-tells n e =
+    let (a, b) = both (not (eqb n 0)) (not (ltb mostSlots n)) e in (pos-taken n a, ltb-false mostSlots n (not-true (ltb mostSlots n) b))
+
+pub number-told : (n : ℕ) → 1 ≤ n → n ≤ mostSlots → isSlotNumber n ≡ true
+number-told n l h = rw (ne-eqb n 0 (λ e. omega arith), le-ltb mostSlots n h)
 
 pub formed-tells : (n : ℕ) (k : Kind) (xs : List Slot) → slotsFormed n k xs ≡ true → Formed n k xs
 unfolding slotsFormed keysDiffer ranked
 formed-tells n k xs e =
-    let (e₂, h₃) = both (eqb (length xs) n && allBelow n (λ i. slotFormed k (slotAt xs i)) && keysDiffer n xs) (ranked n xs) e in
-    let (e₁, h₂) = both (eqb (length xs) n && allBelow n (λ i. slotFormed k (slotAt xs i))) (keysDiffer n xs) e₂ in
-    let (h₀, h₁) = both (eqb (length xs) n) (allBelow n (λ i. slotFormed k (slotAt xs i))) e₁ in
+    let each : ℕ → Bool = λ i. slotFormed k (slotAt xs i) in
+    let (e₄, h₅) = both (isSlotNumber n && eqb (length xs) mostSlots && allBelow mostSlots each && rule.restFree n xs && keysDiffer n xs) (ranked n xs) e in
+    let (e₃, h₄) = both (isSlotNumber n && eqb (length xs) mostSlots && allBelow mostSlots each && rule.restFree n xs) (keysDiffer n xs) e₄ in
+    let (e₂, h₃) = both (isSlotNumber n && eqb (length xs) mostSlots && allBelow mostSlots each) (rule.restFree n xs) e₃ in
+    let (e₁, h₂) = both (isSlotNumber n && eqb (length xs) mostSlots) (allBelow mostSlots each) e₂ in
+    let (h₀, h₁) = both (isSlotNumber n) (eqb (length xs) mostSlots) e₁ in
+    let (low, high) = number-tells n h₀ in
     record {
-      size = eqb-true (length xs) n h₀;
-      slots = all-at n (λ i. slotFormed k (slotAt xs i)) h₁;
-      keys = λ i j l m u v q. go h₂ i j l m u v q (ltb j i) refl (ltb i j) refl;
-      ranks = h₃;
+      low = low;
+      high = high;
+      array = eqb-true (length xs) mostSlots h₁;
+      slots = λ i l. all-at mostSlots each h₂ i (omega arith);
+      keys = λ i j l m u v q. go h₄ i j l m u v q (ltb j i) refl (ltb i j) refl;
+      ranks = h₅;
+      rest = λ i l m. (all-at mostSlots each h₂ i m, past i l (all-at mostSlots (λ i. ltb i n || isFree (slotAt xs i)) h₃ i m));
     }
   where
+    past : (i : ℕ) → n ≤ i → (ltb i n || isFree (slotAt xs i)) ≡ true → slotAt xs i .rank ≡ 0
+    past i l h = eqb-true (slotAt xs i .rank) 0 (simp (le-ltb i n l) at h)
+
     -- a later slot with the key of an earlier one
     apart : keysDiffer n xs ≡ true → (i j : ℕ) → i < n → j < i → 0 < slotAt xs i .rank → 0 < slotAt xs j .rank → slotAt xs i .key ≡ slotAt xs j .key → ⊥
     apart h i j l m u v q =
@@ -99,8 +124,22 @@ formed-tells n k xs e =
 pub formed-told : (n : ℕ) (k : Kind) (xs : List Slot) → Formed n k xs → slotsFormed n k xs ≡ true
 unfolding slotsFormed keysDiffer ranked
 formed-told n k xs w =
-    rw (eq-eqb (length xs) n (w .size), all-hold n (λ i. slotFormed k (slotAt xs i)) (w .slots), all-hold n (λ i. allBelow i (λ j. not (rule.keyTwice xs i j))) (λ i l. all-hold i (λ j. not (rule.keyTwice xs i j)) (λ j m. differ i j l m (rule.keyTwice xs i j) refl))) (w .ranks)
+    rw (
+      number-told n (w .low) (w .high),
+      eq-eqb (length xs) mostSlots (w .array),
+      all-hold mostSlots (λ i. slotFormed k (slotAt xs i)) (λ i l. each i l (ltb i n) refl),
+      all-hold mostSlots (λ i. ltb i n || isFree (slotAt xs i)) (λ i l. past i l (ltb i n) refl),
+      all-hold n (λ i. allBelow i (λ j. not (rule.keyTwice xs i j))) (λ i l. all-hold i (λ j. not (rule.keyTwice xs i j)) (λ j m. differ i j l m (rule.keyTwice xs i j) refl)),
+    ) (w .ranks)
   where
+    each : (i : ℕ) → i < mostSlots → (b : Bool) → ltb i n ≡ b → slotFormed k (slotAt xs i) ≡ true
+    each i l true e = w .slots i (ltb-true i n e)
+    each i l false e = w .rest i (ltb-false i n e) l .0
+
+    past : (i : ℕ) → i < mostSlots → (b : Bool) → ltb i n ≡ b → (b || isFree (slotAt xs i)) ≡ true
+    past i l true e = refl
+    past i l false e = eq-eqb (slotAt xs i .rank) 0 (w .rest i (ltb-false i n e) l .1)
+
     differ : (i j : ℕ) → i < n → j < i → (b : Bool) → rule.keyTwice xs i j ≡ b → not b ≡ true
     differ i j l m false e = refl
     differ i j l m true e =
@@ -114,24 +153,36 @@ pub free-slot-formed : (k : Kind) → slotFormed k freeSlot ≡ true
 unfolding slotFormed allZero allBelow
 free-slot-formed k = refl
 
-pub fresh-formed : (n : ℕ) (k : Kind) → Formed n k (replicate n freeSlot)
-fresh-formed n k = record {
-  size = length-replicate n freeSlot;
-  slots = λ i l. rw (free i l) (free-slot-formed k);
-  keys = λ i j l m u v q. absurd (omega (arith, ap (λ (x : Slot). x .rank) (free i l)));
-  ranks = all-hold (countBelow n (λ i. used (slotAt (replicate n freeSlot) i))) _ (λ r l. absurd (omega (arith, none)));
+pub fresh-slot : (n : ℕ) (k : Kind) (i : ℕ) → i < mostSlots → slotAt (freshRecord n k .slots) i ≡ freeSlot
+fresh-slot n k i l = getD-replicate mostSlots i freeSlot _ l
+
+pub fresh-formed : (n : ℕ) (k : Kind) → 1 ≤ n → n ≤ mostSlots → Formed n k (freshRecord n k .slots)
+fresh-formed n k low high = record {
+  low = low;
+  high = high;
+  array = length-replicate mostSlots freeSlot;
+  slots = λ i l. formed-there i (omega arith);
+  keys = λ i j l m u v q. absurd (omega (arith, free i (omega arith)));
+  ranks = all-hold (countBelow n (λ i. used (slotAt (freshRecord n k .slots) i))) _ (λ r l. absurd (omega (arith, none)));
+  rest = λ i l m. (formed-there i m, free i m);
 }
   where
-    free : (i : ℕ) → i < n → slotAt (replicate n freeSlot) i ≡ freeSlot
-    free i l = getD-replicate n i freeSlot _ l
+    free : (i : ℕ) → i < mostSlots → slotAt (freshRecord n k .slots) i .rank ≡ 0
+    free i l = ap (λ (x : Slot). x .rank) (fresh-slot n k i l)
 
-    none : countBelow n (λ i. used (slotAt (replicate n freeSlot) i)) ≡ 0
-    none = count-zero n (λ i. used (slotAt (replicate n freeSlot) i)) (λ i l. rw (free i l))
+    formed-there : (i : ℕ) → i < mostSlots → slotFormed k (slotAt (freshRecord n k .slots) i) ≡ true
+    formed-there i l = rw (fresh-slot n k i l) (free-slot-formed k)
+
+    none : countBelow n (λ i. used (slotAt (freshRecord n k .slots) i)) ≡ 0
+    none = count-zero n (λ i. used (slotAt (freshRecord n k .slots) i)) (λ i l. rw (fresh-slot n k i (omega arith)))
 
 -- ---- another rank
 pub rank-formed : (k : Kind) (x : Slot) (q : ℕ) → not (eqb q 0) ≡ used x → slotFormed k (atRank q x) ≡ slotFormed k x
 unfolding slotFormed usedFormed allZero
 rank-formed k x q e = rw e
+
+free-still : (p q : ℕ) → not (eqb p 0) ≡ not (eqb q 0) → q ≡ 0 → eqb p 0 ≡ true
+free-still p q e z = not-false (eqb p 0) (e ∙ rw (eq-eqb q 0 z))
 
 -- Slot i is another, and each other slot keeps all but its rank: the record stays well formed where slot i is, its key is nobody else's, and
 -- the ranks have no gap.
@@ -153,12 +204,22 @@ module _ (n : ℕ) (k : Kind) (xs : List Slot) (w : Formed n k xs) (i : ℕ) (in
         → ((j : ℕ) → j < n → (j ≡ i → ⊥) → 0 < slotAt ys i .rank → 0 < slotAt xs j .rank → slotAt xs j .key ≡ slotAt ys i .key → ⊥)
         → Ranked n (λ j. slotAt ys j .rank) → Formed n k ys
     moved-formed ok alone ranks = record {
-      size = size ∙ w .size;
+      low = w .low;
+      high = w .high;
+      array = size ∙ w .array;
       slots = λ j l. slot-there ok j l (same? j i);
       keys = λ j m l l′ u v q. go j m l l′ u v q (same? j i) (same? m i);
       ranks = ranks;
+      rest = λ j l m. past-there j l (w .rest j l m);
     }
       where
+        -- a free slot keeps its rank
+        past-there : (j : ℕ) → n ≤ j → (slotFormed k (slotAt xs j) ≡ true) × (slotAt xs j .rank ≡ 0) → (slotFormed k (slotAt ys j) ≡ true) × (slotAt ys j .rank ≡ 0)
+        past-there j l (f, z) =
+            let ne : j ≡ i → ⊥ = λ e. omega arith in
+            let stays : g (slotAt xs j .rank) ≡ 0 = eqb-true (g (slotAt xs j .rank)) 0 (free-still (g (slotAt xs j .rank)) (slotAt xs j .rank) (same-used (slotAt xs j .rank)) z) in
+            (rw (there j ne) (rank-formed k (slotAt xs j) (g (slotAt xs j .rank)) (same-used (slotAt xs j .rank)) ∙ f), ap (λ (y : Slot). y .rank) (there j ne) ∙ stays)
+
         not-here : (j m : ℕ) → j < n → 0 < slotAt ys j .rank → 0 < slotAt ys m .rank → slotAt ys j .key ≡ slotAt ys m .key → (j ≡ i → ⊥) → m ≡ i → ⊥
         not-here j m l u v q ne p =
             alone j l ne (omega (arith, ap (λ (o : ℕ). slotAt ys o .rank) p)) (was-used j ne u) (sym (key-was j ne) ∙ q ∙ ap (λ (o : ℕ). slotAt ys o .key) p)
@@ -173,7 +234,7 @@ module _ (n : ℕ) (k : Kind) (xs : List Slot) (w : Formed n k xs) (i : ℕ) (in
   pub front-formed : (x : Slot) → slotFormed k (atRank 1 x) ≡ true
       → ((j : ℕ) → j < n → (j ≡ i → ⊥) → 0 < slotAt xs j .rank → slotAt xs j .key ≡ x .key → ⊥) → Formed n k (toFront xs i x)
   front-formed x ok alone =
-      let here : slotAt (toFront xs i x) i ≡ atRank 1 x = front-here xs i x (omega (arith, w .size)) in
+      let here : slotAt (toFront xs i x) i ≡ atRank 1 x = front-here xs i x (omega (arith, array-holds n k xs w)) in
       moved-formed (toFront xs i x) (front-length xs i x) (aged (slotAt xs i .rank)) (aged-taken (slotAt xs i .rank)) (front-there xs i x)
       (rw here ok)
       (λ j l ne u v q. alone j l ne v (q ∙ ap (λ (y : Slot). y .key) here))
@@ -183,7 +244,7 @@ module _ (n : ℕ) (k : Kind) (xs : List Slot) (w : Formed n k xs) (i : ℕ) (in
   -- slot i is freed
   pub free-formed : 0 < slotAt xs i .rank → Formed n k (freed xs i)
   free-formed taken =
-      let here : slotAt (freed xs i) i ≡ freeSlot = freed-here xs i (omega (arith, w .size)) in
+      let here : slotAt (freed xs i) i ≡ freeSlot = freed-here xs i (omega (arith, array-holds n k xs w)) in
       let gone : slotAt (freed xs i) i .rank ≡ 0 = ap (λ (y : Slot). y .rank) here in
       moved-formed (freed xs i) (freed-length xs i) (closed (slotAt xs i .rank)) (λ q. closed-taken (slotAt xs i .rank) q taken) (freed-there xs i)
       (rw here (free-slot-formed k))

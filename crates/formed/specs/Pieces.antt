@@ -1,6 +1,6 @@
 -- Parts of the rules for which the code has a function of its own, over the fields that it takes.
 use Prim.Native.Nat.{ℕ}
-use mathlib.Core.Bool.{Bool, not, cond, _&&_}
+use mathlib.Core.Bool.{Bool, not, cond, _&&_, _||_}
 use mathlib.Core.List.{List}
 use lib.Dec.{eqb, ltb, leb}
 use Rattle.types.specs.declared.Kind.{Kind}
@@ -9,7 +9,7 @@ use Rattle.arrival.specs.Page.{pageContent}
 use Rattle.arrival.specs.Keys.{ofPages, room}
 use Rattle.types.specs.declared.Slot.{Slot}
 use Rattle.slots.specs.Below.{allBelow}
-use Rattle.slots.specs.Slots.{slotAt}
+use Rattle.slots.specs.Slots.{mostSlots, slotAt, isFree}
 use Rattle.formed.specs.Formed.{markAt, sizeAt, slotFormed, keyTwice}
 
 -- of `lengthFits`: the fewest octets of a part, and the most of part `number`
@@ -24,9 +24,12 @@ abbrev pub partWithin : Slot → ℕ → Bool
 partWithin x i =
     cond (markAt x i) (ltb i (x .total) && (leb (fewest (x .key)) (sizeAt x i) && leb (sizeAt x i) (most (x .key) 2))) (eqb (sizeAt x i) 0)
 
--- of `slotsFormed`: each slot for itself
+-- of `slotsFormed`: each slot for itself, and whether it is free if it is past the first n
+abbrev pub slotHolds : ℕ → Kind → List Slot → ℕ → Bool
+slotHolds n k xs i = slotFormed k (slotAt xs i) && (ltb i n || isFree (slotAt xs i))
+
 abbrev pub slotsHold : ℕ → Kind → List Slot → Bool
-slotsHold n k xs = allBelow n (λ i. slotFormed k (slotAt xs i))
+slotsHold n k xs = allBelow mostSlots (slotHolds n k xs)
 
 -- of `keysDiffer`: slot i and those before it
 abbrev pub keyDiffers : List Slot → ℕ → Bool

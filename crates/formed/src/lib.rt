@@ -19,7 +19,7 @@ ghost use lib.ListN.{length};
 ghost use Rattle.arrival.specs.Message.{mostParts};
 ghost use Rattle.arrival.specs.Keys.{messageKeyFormed, pageKeyFormed, keyFormed, totalFits};
 ghost use Rattle.slots.specs.Below.{allBelow};
-ghost use Rattle.slots.specs.Slots.{slotCount};
+ghost use Rattle.slots.specs.Slots.{mostSlots};
 ghost use Rattle.formed.specs.Formed.{zeroKey, zeroPart, allZero, partFormed, heldCount, usedFormed, slotFormed, keysDiffer, usedCount, isRank, ranked, recordFormed};
 ghost use Rattle.formed.specs.Pieces.{fewest, most, slotsHold, keyDiffers};
 
@@ -181,16 +181,17 @@ fn slot_formed(kind: Kind, x: Slot) -> bool
     used_formed(kind, x)
 }
 
-// Whether each slot is well formed. A record has as many as its type says.
+// Whether each slot is well formed, and those past the record's own are free. The array has as many as its type says.
 fn slots_formed(state: Record) -> bool
-    ensures { λ r. ⌜ (r ≡ slotsHold slotCount (state .kind) (state .slots)) × (length (state .slots) ≡ slotCount) ⌝ }
+    ensures { λ r. ⌜ (r ≡ slotsHold (state .count) (state .kind) (state .slots)) × (length (state .slots) ≡ mostSlots) ⌝ }
 {
     let kind = state.kind;
+    let n = state.count as usize;
     let mut ok = true;
     let mut i = 0;
     while i < SLOTS {
         let x = state.slots[i];
-        ok = ok & slot_formed(kind, x);
+        ok = ok & (slot_formed(kind, x) & ((i < n) | (x.rank == 0)));
         i = i + 1;
     }
     ok
@@ -198,7 +199,7 @@ fn slots_formed(state: Record) -> bool
 
 // Whether the key of slot i is no used slot's before it.
 fn key_differs(state: Record, i: usize) -> bool
-    requires { ⌜ i < slotCount ⌝ }
+    requires { ⌜ i < mostSlots ⌝ }
     ensures { λ r. ⌜ r ≡ keyDiffers (state .slots) i ⌝ }
 {
     let x = state.slots[i];
@@ -216,26 +217,28 @@ fn key_differs(state: Record, i: usize) -> bool
     ok
 }
 
-// Whether no two used slots have one key.
-fn keys_differ(state: Record) -> bool
-    ensures { λ r. ⌜ r ≡ keysDiffer slotCount (state .slots) ⌝ }
+// Whether no two used slots of the first n have one key.
+fn keys_differ(state: Record, n: usize) -> bool
+    requires { ⌜ n ≤ mostSlots ⌝ }
+    ensures { λ r. ⌜ r ≡ keysDiffer n (state .slots) ⌝ }
 {
     let mut ok = true;
     let mut i = 0;
-    while i < SLOTS {
+    while i < n {
         ok = ok & key_differs(state, i);
         i = i + 1;
     }
     ok
 }
 
-// How many slots are used.
-fn used_count(state: Record) -> u8
-    ensures { λ r. ⌜ (r ≡ usedCount slotCount (state .slots)) × (r ≤ slotCount) ⌝ }
+// How many of the first n slots are used.
+fn used_count(state: Record, n: usize) -> u8
+    requires { ⌜ n ≤ mostSlots ⌝ }
+    ensures { λ r. ⌜ (r ≡ usedCount n (state .slots)) × (r ≤ mostSlots) ⌝ }
 {
     let mut m = 0;
     let mut i = 0;
-    while i < SLOTS {
+    while i < n {
         let x = state.slots[i];
         m = m + one(x.rank != 0);
         i = i + 1;
@@ -243,13 +246,14 @@ fn used_count(state: Record) -> u8
     m
 }
 
-// Whether a slot has the rank r.
-fn is_rank(state: Record, r: u8) -> bool
-    ensures { λ b. ⌜ b ≡ isRank slotCount (state .slots) r ⌝ }
+// Whether one of the first n slots has the rank r.
+fn is_rank(state: Record, n: usize, r: u8) -> bool
+    requires { ⌜ n ≤ mostSlots ⌝ }
+    ensures { λ b. ⌜ b ≡ isRank n (state .slots) r ⌝ }
 {
     let mut any = false;
     let mut i = 0;
-    while i < SLOTS {
+    while i < n {
         let x = state.slots[i];
         any = any | (x.rank == r);
         i = i + 1;
@@ -257,23 +261,28 @@ fn is_rank(state: Record, r: u8) -> bool
     any
 }
 
-// Whether the used slots are ranked 1, 2, .. without a gap.
-fn ranked(state: Record) -> bool
-    ensures { λ r. ⌜ r ≡ ranked slotCount (state .slots) ⌝ }
+// Whether the used slots of the first n are ranked 1, 2, .. without a gap.
+fn ranked(state: Record, n: usize) -> bool
+    requires { ⌜ n ≤ mostSlots ⌝ }
+    ensures { λ r. ⌜ r ≡ ranked n (state .slots) ⌝ }
 {
-    let m = used_count(state);
+    let m = used_count(state, n);
     let mut ok = true;
     let mut r = 0;
     while r < m {
-        ok = ok & is_rank(state, r + 1);
+        ok = ok & is_rank(state, n, r + 1);
         r = r + 1;
     }
     ok
 }
 
-// Whether the library can have made the record.
+// Whether the library can have made the record: it has 1 to 5 slots, and they are as they can be.
 pub fn record_formed(state: Record) -> bool
-    ensures { λ r. ⌜ r ≡ recordFormed slotCount state ⌝ }
+    ensures { λ r. ⌜ r ≡ recordFormed (state .count) state ⌝ }
 {
-    slots_formed(state) & keys_differ(state) & ranked(state)
+    let n = state.count as usize;
+    if (n != 0) & !(SLOTS < n) {
+        return slots_formed(state) & keys_differ(state, n) & ranked(state, n);
+    }
+    false
 }

@@ -3,16 +3,16 @@ use Prim.Native.Nat.{_≤_, _-_}
 use mathlib.Core.Path.{_≡_}
 use lib.Dec.{eqb}
 use Rattle.slots.specs.Below.{anyBelow}
-use Rattle.slots.specs.Slots.{slotCount, slotAt}
+use Rattle.slots.specs.Slots.{slotAt}
 use Rattle.formed.proofs.Steps.{formedSteps}
 use Rattle.formed.proofs.is_rank.Statement.{statement}
 use Rattle.formed.proofs.is_rank.Tie as tie
 
 abbrev Inv-loop : tie.InvT-loop
-Inv-loop r state any₀ i₀ any i = (i ≤ slotCount) × (any ≡ anyBelow i (λ i. eqb (slotAt (state .slots) i .rank) r))
+Inv-loop n r state any₀ i₀ any i = (i ≤ n) × (any ≡ anyBelow i (λ i. eqb (slotAt (state .slots) i .rank) r))
 
 abbrev μ-loop : tie.MeasureT-loop
-μ-loop r state any₀ i₀ any i = slotCount - i
+μ-loop n r state any₀ i₀ any i = n - i
 
 loop-holds : tie.Need-loop-holds Inv-loop μ-loop
 loop-holds c = search formedSteps

@@ -2,17 +2,16 @@
 use Prim.Native.Nat.{_≤_, _-_}
 use mathlib.Core.Path.{_≡_}
 use Rattle.slots.specs.Below.{allBelow}
-use Rattle.slots.specs.Slots.{slotCount}
 use Rattle.formed.specs.Pieces.{keyDiffers}
 use Rattle.formed.proofs.Steps.{formedSteps}
 use Rattle.formed.proofs.keys_differ.Statement.{statement}
 use Rattle.formed.proofs.keys_differ.Tie as tie
 
 abbrev Inv-loop : tie.InvT-loop
-Inv-loop state ok₀ i₀ ok i = (i ≤ slotCount) × (ok ≡ allBelow i (keyDiffers (state .slots)))
+Inv-loop state n ok₀ i₀ ok i = (i ≤ n) × (ok ≡ allBelow i (keyDiffers (state .slots)))
 
 abbrev μ-loop : tie.MeasureT-loop
-μ-loop state ok₀ i₀ ok i = slotCount - i
+μ-loop state n ok₀ i₀ ok i = n - i
 
 loop-holds : tie.Need-loop-holds Inv-loop μ-loop
 loop-holds c = search formedSteps

@@ -2,17 +2,16 @@
 use Prim.Native.Nat.{_+_, _≤_, _-_}
 use mathlib.Core.Path.{_≡_}
 use Rattle.slots.specs.Below.{allBelow}
-use Rattle.slots.specs.Slots.{slotCount}
 use Rattle.formed.specs.Formed.{isRank}
 use Rattle.formed.proofs.Steps.{formedSteps}
 use Rattle.formed.proofs.ranked.Statement.{statement}
 use Rattle.formed.proofs.ranked.Tie as tie
 
 abbrev Inv-loop : tie.InvT-loop
-Inv-loop state m ok₀ r₀ ok r = (r ≤ m) × (ok ≡ allBelow r (λ r. isRank slotCount (state .slots) (r + 1)))
+Inv-loop state n m ok₀ r₀ ok r = (r ≤ m) × (ok ≡ allBelow r (λ r. isRank n (state .slots) (r + 1)))
 
 abbrev μ-loop : tie.MeasureT-loop
-μ-loop state m ok₀ r₀ ok r = m - r
+μ-loop state n m ok₀ r₀ ok r = m - r
 
 used-count-requires : tie.Need-used-count-requires Inv-loop μ-loop
 used-count-requires c κs = search formedSteps

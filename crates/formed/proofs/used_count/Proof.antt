@@ -2,16 +2,16 @@
 use Prim.Native.Nat.{_≤_, _-_}
 use mathlib.Core.Path.{_≡_}
 use Rattle.slots.specs.Below.{countBelow}
-use Rattle.slots.specs.Slots.{slotCount, slotAt, used}
+use Rattle.slots.specs.Slots.{slotAt, used}
 use Rattle.formed.proofs.Steps.{formedSteps}
 use Rattle.formed.proofs.used_count.Statement.{statement}
 use Rattle.formed.proofs.used_count.Tie as tie
 
 abbrev Inv-loop : tie.InvT-loop
-Inv-loop state m₀ i₀ m i = (i ≤ slotCount) × (m ≤ i) × (m ≡ countBelow i (λ i. used (slotAt (state .slots) i)))
+Inv-loop n state m₀ i₀ m i = (i ≤ n) × (m ≤ i) × (m ≡ countBelow i (λ i. used (slotAt (state .slots) i)))
 
 abbrev μ-loop : tie.MeasureT-loop
-μ-loop state m₀ i₀ m i = slotCount - i
+μ-loop n state m₀ i₀ m i = n - i
 
 loop-holds : tie.Need-loop-holds Inv-loop μ-loop
 loop-holds c = search formedSteps
