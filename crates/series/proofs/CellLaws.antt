@@ -19,10 +19,10 @@ use Rattle.arrival.specs.Message.{mostParts}
 use Rattle.arrival.specs.Page.{pageContent}
 use Rattle.arrival.specs.Keys.{ofPages, lengthFits}
 use Rattle.types.specs.declared.Slot.{Slot}
-use Rattle.slots.specs.Slots.{slotCount, lengthAt}
+use Rattle.slots.specs.Slots.{lengthAt}
 use Rattle.formed.specs.Formed.{markAt, sizeAt, partFormed}
-use Rattle.series.specs.Cells.{cellOctets, cellsSize, cellAt, cellPart, joined, joinedOctets}
-use Rattle.series.specs.Handing.{Place, cellStart, Short, pieceOf, seriesOctets}
+use Rattle.series.specs.Cells.{cellOctets, cellAt, cellPart, joined, joinedOctets}
+use Rattle.series.specs.Handing.{Place, Reaches, cellStart, Short, pieceOf, seriesOctets}
 
 -- ---- cells
 -- n octets from a place on
@@ -33,12 +33,12 @@ pub same-as : (r : Bool) (a b x : List ℕ) → r ≡ sameOctets a b → a ≡ x
 same-as r a b x h e = cc
 
 module _ (s k : ℕ) (place : Place s k) where
-  cell-inside : cellAt s k + cellOctets ≤ cellsSize slotCount
-  cell-inside = omega (arith, place .0, place .1, place .2)
+  cell-inside : (d : List ℕ) → Reaches s d → cellAt s k + cellOctets ≤ length d
+  cell-inside d l = omega (arith, place .0, place .1, place .2)
 
-  pub stored : (d p e : List ℕ) (at : ℕ) → length p ≤ cellOctets → length d ≡ cellsSize slotCount → at ≡ cellAt s k
+  pub stored : (d p e : List ℕ) (at : ℕ) → length p ≤ cellOctets → Reaches s d → at ≡ cellAt s k
       → e ≡ afterPut d at p → e ≡ placed d (cellAt s k) p
-  stored d p e at short size here h = h ∙ put-fits d at p (omega (arith, cell-inside)) ∙ ap (λ (a : ℕ). placed d a p) here
+  stored d p e at short size here h = h ∙ put-fits d at p (omega (arith, cell-inside d size)) ∙ ap (λ (a : ℕ). placed d a p) here
 
   pub short-at : (lengths : List ℕ) (n : ℕ) → Short lengths → n ≡ getD lengths (k - 1) 0 → n ≤ cellOctets
   short-at lengths n short e = omega (arith, short (k - 1) (omega (arith, place .1, place .2)))

@@ -10,9 +10,9 @@ use Rattle.octets.specs.Laws.{put-fits, length-placed}
 use Rattle.arrival.specs.Message.{mostParts}
 use Rattle.joined.specs.declared.Front.{Front}
 use Rattle.joined.specs.Fronts.{frontOf, mostCounted, extended}
-use Rattle.slots.specs.Slots.{slotCount}
-use Rattle.series.specs.Cells.{cellOctets, cellsSize, joined}
-use Rattle.series.specs.Handing.{Short, pieceOf}
+use Rattle.slots.specs.Slots.{mostSlots}
+use Rattle.series.specs.Cells.{cellOctets, joined}
+use Rattle.series.specs.Handing.{Reaches, Short, pieceOf}
 use Rattle.series.proofs.CellLaws.{part-from, same-as, stored, short-at, piece-new, piece-held, piece-length, joined-none, joined-more, joined-length, start-written, Written, written-none, written-more}
 use Rattle.joined.specs.Laws.{front-more, extended-more, none-told, none-kept, packet-inside, packet-fits, packet-told, packet-written}
 
@@ -37,7 +37,7 @@ module _ (cells lengths : List ℕ) (s number : ℕ) (part : List ℕ) where
           omega (arith, joined-length piece 0 n (omega (arith, each 1 (omega arith) (omega arith))) (λ i a b. each i a (omega arith)))
 
   pub front-next : (f r : Front) (k total : ℕ) (p : List ℕ) → p ≡ piece (k + 1) → r ≡ extended f p → f ≡ frontOf (joined piece k) → k < total
-      → (s < slotCount) × (total ≤ mostParts) → Short lengths → (length part ≤ cellOctets) × (length cells ≡ cellsSize slotCount)
+      → (s < mostSlots) × (total ≤ mostParts) → Short lengths → (length part ≤ cellOctets) × Reaches s cells
       → r ≡ frontOf (joined piece (k + 1))
   front-next f r k total p is more e l (u, v) short (size, whole) =
       let few : length (joined piece k) ≤ mostCounted = omega (arith, count-joined k (omega arith) short size) in

@@ -10,7 +10,7 @@ use mir.Syntax.{w8}
 use mir.Val.{Fits}
 use lib.ListN.{length, getD, List·getD-eq-default}
 use lib.Dec.{eqb, ltb}
-use borrow.Author.Tests.{ltb-true, ltb-false, eqb-true, not-false}
+use borrow.Author.Tests.{ltb-true, ltb-false, le-ltb, eqb-true, not-false}
 use Rattle.octets.specs.Tests.{both, neither}
 use Rattle.types.specs.declared.Kind.{Kind}
 use Rattle.packet.specs.Packets.{mostOctets}
@@ -24,11 +24,12 @@ use Rattle.arrival.specs.Laws.{Admitted, message-part, message-single, page-par
 use Rattle.types.specs.declared.Slot.{Slot}
 use Rattle.types.specs.declared.Record.{Record}
 use Rattle.slots.specs.BelowLaws.{count-at-most}
-use Rattle.slots.specs.Slots.{slotCount, slotAt, used, sameKey, bears, find}
-use Rattle.formed.specs.Formed.{recordFormed}
+use Rattle.slots.specs.Slots.{mostSlots, slotAt, used, sameKey, bears, findIn, slotsIn}
+use Rattle.slots.specs.Found.{seatOf, seat-inside}
+use Rattle.formed.specs.Formed.{slotsFormed, recordFormed}
 use Rattle.slots.specs.RankLaws.{pos-taken, rank-bound}
-use Rattle.slots.specs.FrontLaws.{Found, hit, miss, find?}
-use Rattle.formed.specs.Laws.{UsedSlot, formed-tells, slot-tells}
+use Rattle.slots.specs.FrontLaws.{FoundIn, hit-in, miss-in, find-in?}
+use Rattle.formed.specs.Laws.{UsedSlot, array-holds, formed-tells, slot-tells}
 use Rattle.series.specs.PartLaws.{total-bounds}
 use Rattle.series.specs.Cells.{cellsSize}
 use Rattle.series.specs.Taking.{state, unfit}
@@ -38,39 +39,57 @@ use Rattle.series.proofs.CellLaws.{formed-short, joined-fits, joined-pi
 
 -- ---- a sound record
 -- a slot that a search found passes its test
-found-at : (p : Slot → Bool) (xs : List Slot) (i : ℕ) (o : Option ℕ) → Found p xs o → o ≡ some i → (i < length xs) × (p (slotAt xs i) ≡ true)
-found-at p xs i o (hit j l e f) q = let m : j ≡ i = cc in rw (← m) (l, e)
-found-at p xs i o (miss f) q = let z : _≡_ {A = ℕ} 0 1 = cc in absurd (omega arith)
+found-at : (n : ℕ) (p : Slot → Bool) (xs : List Slot) (i : ℕ) (o : Option ℕ) → FoundIn n p xs o → o ≡ some i → (i < n) × (p (slotAt xs i) ≡ true)
+found-at n p xs i o (hit-in j l e f) q = let m : j ≡ i = cc in rw (← m) (l, e)
+found-at n p xs i o (miss-in f) q = let z : _≡_ {A = ℕ} 0 1 = cc in absurd (omega arith)
 
-module _ (r : Record) (cells : List ℕ) (w : Sound slotCount r cells) where
-  pub ranks-low : (j : ℕ) → slotAt (r .slots) j .rank < 255
-  ranks-low j = go (ltb j slotCount) refl
+module _ (r : Record) (cells : List ℕ) (w : Sound (r .count) r cells) where
+  -- its number is that of its slots
+  pub own-number : slotsIn r ≡ r .count
+  own-number = rw (le-ltb mostSlots (r .count) (w .formed .high))
+
+  enough : r .count ≤ length (r .slots)
+  enough = array-holds (r .count) (r .kind) (r .slots) (w .formed)
+
+  pub rest-free : (j : ℕ) → slotsIn r ≤ j → slotAt (r .slots) j .rank ≡ 0
+  rest-free j l = go (ltb j mostSlots) refl
     where
-      go : (b : Bool) → ltb j slotCount ≡ b → slotAt (r .slots) j .rank < 255
+      go : (b : Bool) → ltb j mostSlots ≡ b → slotAt (r .slots) j .rank ≡ 0
+      go true e = w .formed .rest j (omega (arith, own-number)) (ltb-true j mostSlots e) .1
+      go false e =
+          let past : length (r .slots) ≤ j = omega (arith, ltb-false j mostSlots e, w .formed .array) in rw List·getD-eq-default
+
+  pub ranks-low : (j : ℕ) → slotAt (r .slots) j .rank < 255
+  ranks-low j = go (ltb j (r .count)) refl
+    where
+      go : (b : Bool) → ltb j (r .count) ≡ b → slotAt (r .slots) j .rank < 255
       go true e =
           omega (
             arith,
-            rank-bound slotCount (λ i. slotAt (r .slots) i .rank) (w .formed .ranks) j (ltb-true j slotCount e),
-            count-at-most slotCount (λ i. used (slotAt (r .slots) i)),
+            rank-bound (r .count) (λ i. slotAt (r .slots) i .rank) (w .formed .ranks) j (ltb-true j (r .count) e),
+            count-at-most (r .count) (λ i. used (slotAt (r .slots) i)),
+            w .formed .high,
           )
-      go false e =
-          let past : length (r .slots) ≤ j = omega (arith, ltb-false j slotCount e, w .formed .size) in
-          rw List·getD-eq-default (omega arith)
+      go false e = omega (arith, rest-free j (omega (arith, ltb-false j (r .count) e, own-number)))
+
+  -- the seat of a key is one of the slots
+  pub seat-own : (key : Key) → seatOf (slotsIn r) (r .slots) key .slot < slotsIn r
+  seat-own key = seat-inside (slotsIn r) (r .slots) key (omega (arith, own-number, w .formed .low)) (omega (arith, own-number, enough))
 
   module _ (key : Key) (total number : ℕ) (octets : List ℕ) (adm : Admitted (r .kind) key total number octets) where
-    pub room-at : (i : ℕ) → i < slotCount → Room i number octets cells
+    pub room-at : (i : ℕ) → i < slotsIn r → Room i number octets cells
     room-at i l = record {
-      place = (l, adm .low, omega (arith, adm .high, total-bounds key total (adm .totalFits)));
+      place = (omega (arith, own-number, w .formed .high), adm .low, omega (arith, adm .high, total-bounds key total (adm .totalFits)));
       short = short key number (length octets) (adm .lengthFits);
-      size = w .size;
+      size = omega (arith, own-number, w .size);
     }
 
-    module _ (i : ℕ) (found : find (bears key) (r .slots) ≡ some i) where
-      there : (i < length (r .slots)) × (bears key (slotAt (r .slots) i) ≡ true)
-      there = found-at (bears key) (r .slots) i (find (bears key) (r .slots)) (find? (bears key) (r .slots)) found
+    module _ (i : ℕ) (found : findIn (slotsIn r) (bears key) (r .slots) ≡ some i) where
+      there : (i < slotsIn r) × (bears key (slotAt (r .slots) i) ≡ true)
+      there = found-at (slotsIn r) (bears key) (r .slots) i (findIn (slotsIn r) (bears key) (r .slots)) (find-in? (slotsIn r) (bears key) (r .slots) (omega (arith, own-number, enough))) found
 
-      pub found-inside : i < slotCount
-      found-inside = omega (arith, there .0, w .formed .size)
+      found-inside : i < r .count
+      found-inside = omega (arith, there .0, own-number)
 
       was-used : UsedSlot (r .kind) (slotAt (r .slots) i)
       was-used =
@@ -88,15 +107,16 @@ module _ (r : Record) (cells : List ℕ) (w : Sound slotCount r cells) where
           }
 
 -- what the tests before reading tell
-pub fit : (r : Record) (cells output : List ℕ) → unfit slotCount (state r cells output) ≡ false → Sound slotCount r cells × (length output ≡ mostOctets)
+pub fit : (r : Record) (cells output : List ℕ) → unfit (r .count) (state r cells output) ≡ false → Sound (r .count) r cells × (length output ≡ mostOctets)
 fit r cells output e =
-    let c : Bool = not (eqb (length cells) (cellsSize slotCount)) in
+    let c : Bool = not (eqb (length cells) (cellsSize (r .count))) in
     let o : Bool = not (eqb (length output) mostOctets) in
-    let (e₁, h₂) = neither (c || o) (not (recordFormed slotCount r)) e in
+    let (e₁, h₂) = neither (c || o) (not (recordFormed (r .count) r)) e in
     let (h₀, h₁) = neither c o e₁ in (
       record {
-        formed = formed-tells slotCount (r .kind) (r .slots) (not-false (recordFormed slotCount r) h₂);
-        size = eqb-true (length cells) (cellsSize slotCount) (not-false (eqb (length cells) (cellsSize slotCount)) h₀);
+        number = refl;
+        formed = formed-tells (r .count) (r .kind) (r .slots) (both (eqb (r .count) (r .count)) (slotsFormed (r .count) (r .kind) (r .slots)) (not-false (recordFormed (r .count) r) h₂) .1);
+        size = eqb-true (length cells) (cellsSize (r .count)) (not-false (eqb (length cells) (cellsSize (r .count))) h₀);
       },
       eqb-true (length output) mostOctets (not-false (eqb (length output) mostOctets) h₁),
     )

@@ -37,7 +37,7 @@ use Rattle.series.specs.declared.take.Step.the-variants.{Refuses, Repeat
 use Rattle.slots.specs.Below.{allBelow}
 use Rattle.slots.specs.BelowLaws.{fault-from, fault-more, fault-through, all-up-to}
 use Rattle.slots.specs.Found.{newSeatIn, seatOf, seat-found, seat-not-found, withPartIn, with-part-in}
-use Rattle.slots.specs.Slots.{slotCount, slotAt, isFree, find, opened, freeSlot, heldAt, lengthAt, withPart, toFront, freed, withSlots}
+use Rattle.slots.specs.Slots.{slotAt, isFree, findIn, opened, freeSlot, heldAt, lengthAt, withPart, toFront, freed, withSlots, slotsIn}
 use Rattle.slots.specs.Order.{replaced, front-in, freed-in}
 use Rattle.formed.specs.Formed.{recordFormed}
 use Rattle.series.specs.Cells.{cellsSize, cellAt, cellPart, joinedOctets}
@@ -109,12 +109,12 @@ pub slot-emptied : (a : response.Answer) (i : ℕ) (x : Slot) → x ≡ freeSlot
 slot-emptied a i x e = rw e
 
 -- what becomes of a record
-module _ (r : Record) (i : ℕ) (inside : i < slotCount) (c : Change) (a : response.Answer) where
-  comes-front : (x : Slot) → ((j : ℕ) → slotAt (r .slots) j .rank < 255) → c ≡ fronted a i x → changed r c ≡ withSlots r (toFront (r .slots) i x)
-  comes-front x low e = rw e (front-in slotCount r i inside x low)
+module _ (r : Record) (k : Kind) (i : ℕ) (y : Slot) (holds : Holds r k i y) (c : Change) (a : response.Answer) where
+  comes-front : (x : Slot) → c ≡ fronted a i x → changed r c ≡ withSlots r (toFront (r .slots) i x)
+  comes-front x e = rw e (front-in r i (holds .inside) (holds .rest) x (holds .ranks))
 
   comes-free : c ≡ emptied a i → changed r c ≡ withSlots r (freed (r .slots) i)
-  comes-free e = rw e (freed-in slotCount r i inside)
+  comes-free e = rw e (freed-in r i (holds .inside) (holds .rest))
 
 module _ (z : Size) where
   pub answer-packet : (n : ℕ) → z ≡ size.Octets n → packet n ≡ answerOf (toldSize z)
@@ -173,84 +173,93 @@ of-key true = refl
 of-key false = refl
 
 -- what acting comes to, by whether the key is of pages
-acted-by : (s : State) (key : Key) (total number : ℕ) (octets : List ℕ) (st : Step)
-    → acted slotCount s (anyKeyOf (ofPages key)) total number octets st ≡ acted slotCount s key total number octets st
-acted-by s key total number octets (refuses m) = refl
-acted-by s key total number octets (repeats i) = refl
-acted-by s key total number octets (keeps i d x) = refl
-acted-by s key total number octets (finishes i) = rw (of-key (ofPages key))
+acted-by : (n : ℕ) (s : State) (key : Key) (total number : ℕ) (octets : List ℕ) (st : Step)
+    → acted n s (anyKeyOf (ofPages key)) total number octets st ≡ acted n s key total number octets st
+acted-by n s key total number octets (refuses m) = refl
+acted-by n s key total number octets (repeats i) = refl
+acted-by n s key total number octets (keeps i d x) = refl
+acted-by n s key total number octets (finishes i) = rw (of-key (ofPages key))
 
 -- a part of the series x in slot i, where step z is due
-module _ (k : Kind) (cells output : List ℕ) (paged : Bool) (total number : ℕ) (octets : List ℕ) (i : ℕ) (x : Slot) (room : Room i number octets cells)
+module _ (k : Kind) (cells output : List ℕ) (paged : Bool) (total number : ℕ) (octets : List ℕ) (i : ℕ) (x : Slot)
     (z : code.Step) (told : toldStep i x z ≡ stepAt cells total number octets i x) (c : Change) where
   abbrev due : Record → After
-  due r = acted slotCount (state r cells output) (anyKeyOf paged) total number octets (stepAt cells total number octets i x)
+  due r = acted (slotsIn r) (state r cells output) (anyKeyOf paged) total number octets (stepAt cells total number octets i x)
 
   pub acts-refuses : (q : Refusal) → z ≡ Refuses q → (c .answer ≡ answer.Refused q) × (c .moves ≡ false) → Makes (λ r. Holds r k i x) c cells output due
   acts-refuses q e (h, m) r holds = rw (← told, e, h, m)
 
   pub acts-repeats : z ≡ Repeats → c ≡ fronted (answer.HeldAlready i) i x → Makes (λ r. Holds r k i x) c cells output due
   acts-repeats e h r holds =
-      rw (← told, e, comes-front r i (room .place .0) c (answer.HeldAlready i) x (holds .ranks) h, h, holds .entry)
+      rw (← told, e, comes-front r k i x holds c (answer.HeldAlready i) x h, h, holds .entry)
 
   pub acts-keeps : (cells′ : List ℕ) → z ≡ Keeps → c ≡ fronted (answer.Kept i false) i (withPart x number (length octets))
       → cells′ ≡ placed cells (cellAt i number) octets → Makes (λ r. Holds r k i x) c cells′ output due
   acts-keeps cells′ e h g r holds =
-      rw (← told, e, comes-front r i (room .place .0) c (answer.Kept i false) (withPart x number (length octets)) (holds .ranks) h, h, g)
+      rw (← told, e, comes-front r k i x holds c (answer.Kept i false) (withPart x number (length octets)) h, h, g)
 
   pub acts-finishes : (o : List ℕ) → z ≡ Finishes
       → toldAnswer (c .answer) ≡ answerOf (lengthIn (packetIn k paged (x .total) (joinedOctets cells x i number octets))) → c ≡ emptied (c .answer) i
       → o ≡ outputWith (packetIn k paged (x .total) (joinedOctets cells x i number octets)) output → Makes (λ r. Holds r k i x) c cells o due
   acts-finishes o e h f g r holds =
       let t : x .total ≡ total = finish-total cells total number octets i x (rw e at told) in
-      rw (← told, e, comes-free r i (room .place .0) c (c .answer) f, ← t, holds .entry, of-key paged)
+      rw (← told, e, comes-free r k i x holds c (c .answer) f, ← t, holds .entry, of-key paged)
       (handed-out (state r cells output) (withSlots r (freed (r .slots) i)) (toldAnswer (c .answer)) o (packetIn (r .kind) paged (x .total) (joinedOctets cells x i number octets)) (rw (holds .kind) h) (rw (holds .kind) g))
 
 -- ---- a part
 module _ (k : Kind) (key : Key) (o : Seat) (x : Slot) (cells output : List ℕ) (total number : ℕ) (octets : List ℕ) (c : Change) (cells′ : List ℕ) where
   abbrev partDue : Record → After
-  partDue r = takePart slotCount (state r cells output) key total number octets
+  partDue r = takePart (slotsIn r) (state r cells output) key total number octets
 
   pub part-more : (i : ℕ) (output′ : List ℕ) → o .held ≡ true → i ≡ o .slot
-      → Makes (λ r. Holds r k i x) c cells′ output′ (λ r. acted slotCount (state r cells output) (anyKeyOf (ofPages key)) total number octets (stepAt cells total number octets i x))
+      → Makes (λ r. Holds r k i x) c cells′ output′ (λ r. acted (slotsIn r) (state r cells output) (anyKeyOf (ofPages key)) total number octets (stepAt cells total number octets i x))
       → Makes (λ r. Seated r k key o x) c cells′ output′ partDue
   unfolding takePart step
   part-more i output′ h is makes r seated =
-      rw (seat-found slotCount (r .slots) key o (seated .seat) h, seated .holds .entry)
-      (makes r (rw is (seated .holds)) ∙ rw is (acted-by (state r cells output) key total number octets (stepAt cells total number octets (o .slot) x)))
+      rw (seat-found (slotsIn r) (r .slots) key o (seated .seat) h, seated .holds .entry)
+      (makes r (rw is (seated .holds)) ∙ rw is (acted-by (slotsIn r) (state r cells output) key total number octets (stepAt cells total number octets (o .slot) x)))
 
-  opens-at : (r : Record) (q : Option ℕ) → let p : Seat = newSeatIn slotCount (r .slots) q in
+  opens-at : (r : Record) (q : Option ℕ) → let p : Seat = newSeatIn (slotsIn r) (r .slots) q in
       after (kept (p .slot) (p .displaced)) (withSlots r (toFront (r .slots) (p .slot) (withPart (opened key total) number (length octets))))
       (placed cells (cellAt (p .slot) number) octets) output
-      ≡ acted slotCount (state r cells output) key total number octets (stepNew slotCount (state r cells output) key total number octets q)
+      ≡ acted (slotsIn r) (state r cells output) key total number octets (stepNew (slotsIn r) (state r cells output) key total number octets q)
   opens-at r (some i) = refl
   opens-at r none = refl
 
-  pub part-opens : (i : ℕ) (y : Slot) → o .held ≡ false → i ≡ o .slot → i < slotCount → y ≡ opened key total
+  pub part-opens : (i : ℕ) (y : Slot) → o .held ≡ false → i ≡ o .slot → y ≡ opened key total
       → c ≡ fronted (answer.Kept i (o .displaced)) i (withPart y number (length octets)) → cells′ ≡ placed cells (cellAt i number) octets
       → Makes (λ r. Seated r k key o x) c cells′ output partDue
   unfolding takePart step
-  part-opens i y h is l e f g r seated =
-      let (none-found, new) = seat-not-found slotCount (r .slots) key o (seated .seat) h in
-      rw (comes-front r i l c (answer.Kept i (o .displaced)) (withPart y number (length octets)) (seated .holds .ranks) f, f, g, e, is, none-found)
-      (rw new (opens-at r (find isFree (r .slots))))
+  part-opens i y h is e f g r seated =
+      let (none-found, new) = seat-not-found (slotsIn r) (r .slots) key o (seated .seat) h in
+      rw (comes-front r k i x (rw is (seated .holds)) c (answer.Kept i (o .displaced)) (withPart y number (length octets)) f, f, g, e, is, none-found)
+      (rw new (opens-at r (findIn (slotsIn r) isFree (r .slots))))
 
   -- of the record that the code has
   pub part-done : (r : Record) (output′ : List ℕ) → Makes (λ r. Seated r k key o x) c cells′ output′ partDue → r .kind ≡ k
-      → o ≡ seatOf slotCount (r .slots) key → slotAt (r .slots) (o .slot) ≡ x → Sound slotCount r cells
+      → o ≡ seatOf (slotsIn r) (r .slots) key → slotAt (r .slots) (o .slot) ≡ x → Sound (r .count) r cells
       → after (toldAnswer (c .answer)) (changed r c) cells′ output′ ≡ partDue r
   part-done r output′ makes kind seat entry w =
-      makes r (record { seat = seat; holds = record { kind = kind; entry = entry; ranks = law.ranks-low r cells w } })
+      makes r (record {
+        seat = seat;
+        holds = record {
+          kind = kind;
+          inside = rw seat (law.seat-own r cells w key);
+          rest = law.rest-free r cells w;
+          entry = entry;
+          ranks = law.ranks-low r cells w;
+        };
+      })
 
 -- ---- what reading gave
-pub unfit-told : (r : Record) (cells out : ℕ) (b : Bool) → b ≡ recordFormed slotCount r
-    → (not (eqb cells (cellsSize slotCount)) || not (eqb out mostOctets) || not b)
-    ≡ (not (eqb cells (cellsSize slotCount)) || not (eqb out mostOctets) || not (recordFormed slotCount r))
+pub unfit-told : (r : Record) (cells out : ℕ) (b : Bool) → b ≡ recordFormed (r .count) r
+    → (not (eqb cells (cellsSize (r .count))) || not (eqb out mostOctets) || not b)
+    ≡ (not (eqb cells (cellsSize (r .count))) || not (eqb out mostOctets) || not (recordFormed (r .count) r))
 unfit-told r cells out b e = rw e
 
 module _ (r : Record) (cells output : List ℕ) (b : Bool)
-    (told : b ≡ (not (eqb (length cells) (cellsSize slotCount)) || not (eqb (length output) mostOctets) || not (recordFormed slotCount r))) where
-  pub fit-sound : b ≡ false → Sound slotCount r cells
+    (told : b ≡ (not (eqb (length cells) (cellsSize (r .count))) || not (eqb (length output) mostOctets) || not (recordFormed (r .count) r))) where
+  pub fit-sound : b ≡ false → Sound (r .count) r cells
   fit-sound e = law.fit r cells output (sym told ∙ e) .0
 
   pub fit-output : b ≡ false → length output ≡ mostOctets
@@ -258,7 +267,7 @@ module _ (r : Record) (cells output : List ℕ) (b : Bool)
 
   module _ (paged : Bool) (octets : List ℕ) (z : Arrival) where
     abbrev took : After
-    took = takenWhereFit slotCount (state r cells output) paged octets (toldArrival z)
+    took = takenWhereFit (r .count) (state r cells output) paged octets (toldArrival z)
 
     pub takes-unfit : (a : response.Answer) (r′ : Record) → b ≡ true → (a ≡ answer.Refused BufferOrRecord) × (r′ ≡ r) → after (toldAnswer a) r′ cells output ≡ took
     takes-unfit a r′ e (h, f) = rw (← told, e, h, f)
@@ -273,16 +282,16 @@ module _ (r : Record) (cells output : List ℕ) (b : Bool)
       admitted : Admitted (r .kind) key total number own
       admitted = rw is (rw e at fits)
 
-      sound : Sound slotCount r cells
+      sound : Sound (r .count) r cells
       sound = fit-sound fit
 
-      pub seat-room : (o : Seat) → o .slot < slotCount → Room (o .slot) number own cells
-      seat-room o l = law.room-at r cells sound key total number own admitted (o .slot) l
+      pub seat-room : (o : Seat) → o ≡ seatOf (slotsIn r) (r .slots) key → Room (o .slot) number own cells
+      seat-room o seat = law.room-at r cells sound key total number own admitted (o .slot) (rw seat (law.seat-own r cells sound key))
 
-      pub seat-whole : (o : Seat) → o ≡ seatOf slotCount (r .slots) key → o .held ≡ true
+      pub seat-whole : (o : Seat) → o ≡ seatOf (slotsIn r) (r .slots) key → o .held ≡ true
           → Whole (slotAt (r .slots) (o .slot)) (o .slot) number own cells output
       seat-whole o seat h =
-          law.whole-at r cells sound key total number own admitted (o .slot) (seat-found slotCount (r .slots) key o seat h) output (fit-output fit)
+          law.whole-at r cells sound key total number own admitted (o .slot) (seat-found (slotsIn r) (r .slots) key o seat h) output (fit-output fit)
 
     module _ (fit : b ≡ false) (c : Change) where
       pub takes-refused : (q : Refusal) → z ≡ arrival.Refused q → (c .answer ≡ answer.Refused q) × (c .moves ≡ false) → Done c cells output
@@ -296,8 +305,8 @@ module _ (r : Record) (cells output : List ℕ) (b : Bool)
             rw (← told, fit, e, ← is, m) (handed-out (state r cells output) r (toldAnswer (c .answer)) o (packetIn (r .kind) paged 1 own) h g)
 
         pub takes-part : (key : Key) (total number : ℕ) (a : After) → z ≡ arrival.Part key total number start
-            → a ≡ takePart slotCount (state r cells output) key total number own → a ≡ took
-        takes-part key total number a e h = rw (← told, fit, e, ← is) h
+            → a ≡ takePart (slotsIn r) (state r cells output) key total number own → a ≡ took
+        takes-part key total number a e h = rw (← told, fit, e, ← is) (h ∙ ap (λ n. takePart n (state r cells output) key total number own) (law.own-number r cells (fit-sound fit)))
 
 module _ (k : Kind) (octets : List ℕ) (z : Arrival) (start : ℕ) (own : List ℕ) (is : own ≡ drop start octets) (fits : Fitting k octets z) where
   pub single-fits : (output : List ℕ) → z ≡ arrival.Single start → length output ≡ mostOctets → length own ≤ length output
@@ -306,19 +315,19 @@ module _ (k : Kind) (octets : List ℕ) (z : Arrival) (start : ℕ) (own : List 
 -- ---- taking
 module _ (r : Record) (cells output : List ℕ) (z : Arrival) (a : After) where
   pub message-taken : (sender : ℕ) (ud : List ℕ) → toldArrival z ≡ readMessage (r .kind) sender ud
-      → a ≡ takenWhereFit slotCount (state r cells output) false ud (toldArrival z) → a ≡ takeMessage slotCount (state r cells output) sender ud
+      → a ≡ takenWhereFit (r .count) (state r cells output) false ud (toldArrival z) → a ≡ takeMessage (r .count) (state r cells output) sender ud
   unfolding takeMessage
   message-taken sender ud read h = rw (← read) h
 
   pub page-taken : (page : List ℕ) → toldArrival z ≡ readPage (r .kind) page
-      → a ≡ takenWhereFit slotCount (state r cells output) true page (toldArrival z) → a ≡ takePage slotCount (state r cells output) page
+      → a ≡ takenWhereFit (r .count) (state r cells output) true page (toldArrival z) → a ≡ takePage (r .count) (state r cells output) page
   unfolding takePage
   page-taken page read h = rw (← read) h
 
 -- the record that is left, by whether a slot moved
 module _ (r : Record) (c : Change) (a : After) (cells output : List ℕ) (done : after (toldAnswer (c .answer)) (changed r c) cells output ≡ a) where
   module _ (b : response.Answer) (r′ : Record) where
-    pub moved-so : (r″ : Record) → c .moves ≡ true → r″ ≡ replaced slotCount (c .front) r (c .slot) (c .entry) → (b ≡ c .answer) × (r′ ≡ r″)
+    pub moved-so : (r″ : Record) → c .moves ≡ true → r″ ≡ replaced (c .front) r (c .slot) (c .entry) → (b ≡ c .answer) × (r′ ≡ r″)
         → after (toldAnswer b) r′ cells output ≡ a
     moved-so r″ m e (f, g) = rw (f, g, e) (rw m at done)
 

@@ -1,10 +1,11 @@
 -- What a part does, by cases: each step with the facts under which 01 asks for it.
-use Prim.Native.Nat.{ℕ, _<_}
+use Prim.Native.Nat.{ℕ, _≤_, _<_}
 use mathlib.Core.Path.{_≡_, refl}
 use mathlib.Core.Bool.{Bool, true, false, not, cond}
 use mathlib.Core.List.{List}
 use mathlib.Core.Option.{Option}
 use native.Mathlib.Omega.{arith}
+use lib.ListN.{length}
 use lib.Dec.{eqb}
 use borrow.Author.Tests.{eqb-true, eqb-false, ne-eqb}
 use Rattle.octets.specs.Octets.{sameOctets}
@@ -12,12 +13,12 @@ use Rattle.octets.specs.Laws.{same-true, same-false}
 use Rattle.octets.specs.Tests.{clash, both}
 use Rattle.types.specs.declared.Key.{Key}
 use Rattle.types.specs.declared.Slot.{Slot}
-use Rattle.slots.specs.Slots.{slotAt, opened, used, sameKey, bears, isFree, find, isLeastRecent, slotOr, heldAt}
+use Rattle.slots.specs.Slots.{slotAt, opened, used, sameKey, bears, isFree, findIn, isLeastRecent, slotOr, heldAt}
 use Rattle.series.specs.Cells.{cellPart}
 use Rattle.series.specs.Taking.{State, Step, refuses, repeats, keeps, finishes, completes, stepNew, stepFor, step}
 use Rattle.slots.specs.RankLaws.{pos-taken, last-rank}
-use Rattle.slots.specs.FrontLaws.{same-key, key-same, Found, hit, miss, find?}
-use Rattle.formed.specs.Laws.{Formed}
+use Rattle.slots.specs.FrontLaws.{same-key, key-same, FoundIn, hit-in, miss-in, find-in?}
+use Rattle.formed.specs.Laws.{Formed, array-holds}
 
 -- slot i bears a series of that key; no slot does
 pub record Bears (n : ℕ) (xs : List Slot) (X : Key) (i : ℕ) : Type 0 where
@@ -47,7 +48,10 @@ module _ (n : ℕ) (s : State) (key : Key) (total number : ℕ) (octets : List �
     displaces : (i : ℕ) → Lacks n (s .rec .slots) key → i < n → slotAt (s .rec .slots) i .rank ≡ n
         → ((j : ℕ) → j < n → 0 < slotAt (s .rec .slots) j .rank) → Case (keeps i true (opened key total))
 
-  module _ (pos : 0 < n) (w : Formed n (s .rec .kind) (s .rec .slots)) where
+  module _ (w : Formed n (s .rec .kind) (s .rec .slots)) where
+    enough : n ≤ length (s .rec .slots)
+    enough = array-holds n (s .rec .kind) (s .rec .slots) w
+
     module _ (i : ℕ) (b : Bears n (s .rec .slots) key i) where
       case-last : at i .total ≡ total → heldAt (at i) number ≡ false → (c : Bool) → completes (at i) number ≡ c → Case (cond c (finishes i) (keeps i false (at i)))
       case-last t h true e = last i b t h e
@@ -72,28 +76,26 @@ module _ (n : ℕ) (s : State) (key : Key) (total number : ℕ) (octets : List �
       not-free : (j : ℕ) → isFree (at j) ≡ false → 0 < at j .rank
       not-free j e = let ne = eqb-false (at j .rank) 0 e in omega arith
 
-      case-least : ((j : ℕ) → j < n → 0 < at j .rank) → (r : Option ℕ) → Found (isLeastRecent n) (s .rec .slots) r → Case (keeps (slotOr 0 r) true (opened key total))
-      case-least all r (hit i l e f) = displaces i lacks (omega (arith, w .size)) (eqb-true (at i .rank) n e) all
-      case-least all r (miss f) =
-          let (i, l, e) = last-rank n (λ j. at j .rank) (w .ranks) pos all in
-          absurd (eqb-false (at i .rank) n (f i (omega (arith, w .size))) e)
+      case-least : ((j : ℕ) → j < n → 0 < at j .rank) → (r : Option ℕ) → FoundIn n (isLeastRecent n) (s .rec .slots) r → Case (keeps (slotOr 0 r) true (opened key total))
+      case-least all r (hit-in i l e f) = displaces i lacks l (eqb-true (at i .rank) n e) all
+      case-least all r (miss-in f) =
+          let (i, l, e) = last-rank n (λ j. at j .rank) (w .ranks) (w .low) all in absurd (eqb-false (at i .rank) n (f i l) e)
 
-      case-new : (r : Option ℕ) → Found isFree (s .rec .slots) r → Case (stepNew n s key total number octets r)
-      case-new r (hit i l e f) = opens i lacks (omega (arith, w .size)) (eqb-true (at i .rank) 0 e) (λ j m. not-free j (f j m))
-      case-new r (miss f) =
-          case-least (λ j l. not-free j (f j (omega (arith, w .size)))) (find (isLeastRecent n) (s .rec .slots)) (find? (isLeastRecent n) (s .rec .slots))
+      case-new : (r : Option ℕ) → FoundIn n isFree (s .rec .slots) r → Case (stepNew n s key total number octets r)
+      case-new r (hit-in i l e f) = opens i lacks l (eqb-true (at i .rank) 0 e) (λ j m. not-free j (f j m))
+      case-new r (miss-in f) = case-least (λ j l. not-free j (f j l)) (findIn n (isLeastRecent n) (s .rec .slots)) (find-in? n (isLeastRecent n) (s .rec .slots) enough)
 
-    case-for : (r : Option ℕ) → Found (bears key) (s .rec .slots) r → Case (stepFor n s key total number octets r)
-    case-for r (hit i l e f) =
+    case-for : (r : Option ℕ) → FoundIn n (bears key) (s .rec .slots) r → Case (stepFor n s key total number octets r)
+    case-for r (hit-in i l e f) =
         let (u, q) = both (used (at i)) (sameKey (at i .key) key) e in
-        case-in i (record { inside = omega (arith, w .size); used = pos-taken (at i .rank) u; key = same-key (at i .key) key q }) (eqb (at i .total) total) refl
-    case-for r (miss f) = case-new lacking (find isFree (s .rec .slots)) (find? isFree (s .rec .slots))
+        case-in i (record { inside = l; used = pos-taken (at i .rank) u; key = same-key (at i .key) key q }) (eqb (at i .total) total) refl
+    case-for r (miss-in f) = case-new lacking (findIn n isFree (s .rec .slots)) (find-in? n isFree (s .rec .slots) enough)
       where
         lacking : Lacks n (s .rec .slots) key
         lacking j l u q =
-            clash (bears key (at j)) (rw (ne-eqb (at j .rank) 0 (λ z. omega arith), key-same (at j .key) key q)) (f j (omega (arith, w .size)))
+            clash (bears key (at j)) (rw (ne-eqb (at j .rank) 0 (λ z. omega arith), key-same (at j .key) key q)) (f j l)
 
     -- every part comes to one of the cases
     pub case-of : Case (step n s key total number octets)
     unfolding step
-    case-of = case-for (find (bears key) (s .rec .slots)) (find? (bears key) (s .rec .slots))
+    case-of = case-for (findIn n (bears key) (s .rec .slots)) (find-in? n (bears key) (s .rec .slots) enough)

@@ -9,7 +9,7 @@ use Rattle.arrival.specs.Message.{mostParts}
 use Rattle.types.specs.declared.Slot.{Slot}
 use Rattle.slots.specs.Slots.{lengthAt}
 
--- "Cells: one lent buffer of 6,432 octets (3 × 16 × 134)"
+-- "Cells: one lent buffer of 6,432 octets (3 × 16 × 134)"; "Cells have 2,144 octets a slot, 10,720 by default" (02 [5])
 abbrev pub cellOctets : ℕ
 cellOctets = 134
 

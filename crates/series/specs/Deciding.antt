@@ -23,11 +23,11 @@ use Rattle.series.specs.declared.take.Change.{Change}
 use Rattle.series.specs.declared.take.Step.the-variants.{Refuses, Repeats, Keeps, Finishes}
 use Rattle.slots.specs.declared.find.Seat.{Seat}
 use Rattle.slots.specs.Below.{allBelow}
-use Rattle.slots.specs.Slots.{slotCount, slotAt, atRank, noKey, freeSlot, freshRecord}
+use Rattle.slots.specs.Slots.{slotAt, atRank, noKey, freeSlot, slotsIn, freshRecord}
 use Rattle.slots.specs.Found.{seatOf}
 use Rattle.slots.specs.Order.{replaced}
-use Rattle.series.specs.Cells.{cellOctets, cellsSize, joinedOctets}
-use Rattle.series.specs.Handing.{Place, Short}
+use Rattle.series.specs.Cells.{cellOctets, joinedOctets}
+use Rattle.series.specs.Handing.{Place, Reaches, Short}
 use Rattle.series.specs.Taking.{State, After, Answer, toldAnswer, refusedBy, packet, state, after, refuse, taken, unfit, Step, refuses, repeats, keeps, finishes, stepIn}
 
 -- ---- the step
@@ -64,7 +64,7 @@ answerOf (some n) = packet n
 pub record Room (i number : ℕ) (octets cells : List ℕ) : Type 0 where
   pub place : Place i number
   pub short : length octets ≤ cellOctets
-  pub size : length cells ≡ cellsSize slotCount
+  pub size : Reaches i cells
 
 -- what joining the parts of slot i, which is x, relies on
 pub record Whole (x : Slot) (i number : ℕ) (octets cells output : List ℕ) : Type 0 where
@@ -83,17 +83,19 @@ emptied a i = record { answer = a; moves = true; front = false; slot = i; entry 
 
 -- what a change makes of a record
 abbrev pub changed : Record → Change → Record
-changed r c = cond (c .moves) (replaced slotCount (c .front) r (c .slot) (c .entry)) r
+changed r c = cond (c .moves) (replaced (c .front) r (c .slot) (c .entry)) r
 
--- a record of that kind with x in slot i, and with ranks that can be counted on
+-- a record of that kind with x in slot i, with ranks that can be counted on, and with no series past its slots
 pub record Holds (r : Record) (k : Kind) (i : ℕ) (x : Slot) : Type 0 where
   pub kind : r .kind ≡ k
+  pub inside : i < slotsIn r
+  pub rest : (j : ℕ) → slotsIn r ≤ j → slotAt (r .slots) j .rank ≡ 0
   pub entry : slotAt (r .slots) i ≡ x
   pub ranks : (j : ℕ) → slotAt (r .slots) j .rank < 255
 
 -- one in which besides o is where the series with that key is or goes
 pub record Seated (r : Record) (k : Kind) (key : Key) (o : Seat) (x : Slot) : Type 0 where
-  pub seat : o ≡ seatOf slotCount (r .slots) key
+  pub seat : o ≡ seatOf (slotsIn r) (r .slots) key
   pub holds : Holds r k (o .slot) x
 
 -- with these cells and this output, the change comes to what is due of every such record

@@ -1,17 +1,21 @@
 -- What the functions on cells cite of one another: where a part lies, and the octets of a series, part by part from the lengths of its slot.
-use Prim.Native.Nat.{ℕ, _-_, _≤_, _<_}
+use Prim.Native.Nat.{ℕ, _+_, _-_, _≤_, _<_}
 use mathlib.Core.Bool.{cond}
 use mathlib.Core.List.{List}
-use lib.ListN.{getD, take, drop}
+use lib.ListN.{length, getD, take, drop}
 use lib.Dec.{eqb}
 use Rattle.arrival.specs.Message.{mostParts}
-use Rattle.slots.specs.Slots.{slotCount}
-use Rattle.series.specs.Cells.{cellOctets, cellAt, joined}
+use Rattle.slots.specs.Slots.{mostSlots}
+use Rattle.series.specs.Cells.{cellOctets, cellsSize, cellAt, joined}
 
 -- ---- cells
 -- part k of slot s has a cell
 abbrev pub Place : ℕ → ℕ → Type 0
-Place s k = (s < slotCount) × (0 < k) × (k ≤ mostParts)
+Place s k = (s < mostSlots) × (0 < k) × (k ≤ mostParts)
+
+-- the cells of slot s are among those lent
+abbrev pub Reaches : ℕ → List ℕ → Type 0
+Reaches s cells = cellsSize (s + 1) ≤ length cells
 
 -- the octets that a cell begins with
 abbrev pub cellStart : List ℕ → ℕ → ℕ → ℕ → List ℕ

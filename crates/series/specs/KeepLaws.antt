@@ -39,6 +39,7 @@ short key number size = go (ofPages key) (eqb (key .width) 16)
 
 -- what holds of a record and cells that calls lead to
 pub record Sound (n : ℕ) (r : Record) (cells : List ℕ) : Type 0 where
+  pub number : r .count ≡ n
   pub formed : Formed n (r .kind) (r .slots)
   pub size : length cells ≡ cellsSize n
 
@@ -50,7 +51,7 @@ pub handed-sound : (n : ℕ) (s : State) (r : Record) (o : Option (List ℕ)) �
 handed-sound n s r none w = w
 handed-sound n s r (some p) w = w
 
-module _ (n : ℕ) (pos : 0 < n) (s : State) (w : Sound n (s .rec) (s .cells)) where
+module _ (n : ℕ) (s : State) (w : Sound n (s .rec) (s .cells)) where
   abbrev xs : List Slot
   xs = s .rec .slots
 
@@ -69,6 +70,7 @@ module _ (n : ℕ) (pos : 0 < n) (s : State) (w : Sound n (s .rec) (s .cells)) w
         → ((j : ℕ) → j < n → (j ≡ i → ⊥) → 0 < slotAt xs j .rank → slotAt xs j .key ≡ key → ⊥)
         → SoundAfter n (acted n s key total number octets (keeps i d x))
     kept-sound i l d x e ok alone = record {
+      number = w .number;
       formed = front-formed n k xs (w .formed) i l (withPart x number (length octets)) ok (λ j m ne u q. alone j m ne u (q ∙ e));
       size = cells-size n (s .cells) (w .size) i number l low sixteen octets (short key number (length octets) (adm .lengthFits));
     }
@@ -95,6 +97,7 @@ module _ (n : ℕ) (pos : 0 < n) (s : State) (w : Sound n (s .rec) (s .cells)) w
     case-sound st (other-total i b t) = w
     case-sound st (other-octets i b t h c) = w
     case-sound st (again i b t h c) = record {
+      number = w .number;
       formed = front-formed n k xs (w .formed) i (b .inside) (slotAt xs i)
           (slot-front k (slotAt xs i) (was-used i b))
           (λ j l ne u q. alone-there i b j l ne u (q ∙ b .key));
@@ -102,14 +105,14 @@ module _ (n : ℕ) (pos : 0 < n) (s : State) (w : Sound n (s .rec) (s .cells)) w
     }
     case-sound st (last i b t h c) =
         handed-sound n s (withSlots (s .rec) (freed xs i)) (packetIn k (ofPages key) total (joinedOctets (s .cells) (slotAt xs i) i number octets))
-        (record { formed = free-formed n k xs (w .formed) i (b .inside) (b .used); size = w .size })
+        (record { number = w .number; formed = free-formed n k xs (w .formed) i (b .inside) (b .used); size = w .size })
     case-sound st (more i b t h c) = kept-sound i (b .inside) false (slotAt xs i) (b .key) (more-formed i b t h c) (alone-there i b)
     case-sound st (opens i lacks l z lower) = kept-sound i l false (opened key total) refl opened-formed (λ j m ne u q. lacks j m u q)
     case-sound st (displaces i lacks l z all) = kept-sound i l true (opened key total) refl opened-formed (λ j m ne u q. lacks j m u q)
 
     pub part-sound : SoundAfter n (takePart n s key total number octets)
     unfolding takePart
-    part-sound = case-sound (step n s key total number octets) (case-of n s key total number octets pos (w .formed))
+    part-sound = case-sound (step n s key total number octets) (case-of n s key total number octets (w .formed))
 
   -- so is all that taking can come to
   pub taken-sound : (paged : Bool) (o : List ℕ) (b : reading.Outcome Brought)

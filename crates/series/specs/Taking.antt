@@ -18,7 +18,7 @@ use Rattle.types.specs.declared.Slot.{Slot}
 use Rattle.types.specs.declared.Record.{Record}
 use Rattle.types.specs.declared.Answer as declared
 use Rattle.slots.specs.Below.{allBelow}
-use Rattle.slots.specs.Slots.{slotAt, bears, isFree, find, leastRecent, opened, heldAt, withPart, toFront, freed, withSlots}
+use Rattle.slots.specs.Slots.{slotAt, bears, isFree, findIn, leastRecent, opened, heldAt, withPart, toFront, freed, withSlots}
 use Rattle.formed.specs.Formed.{recordFormed, markAt}
 use Rattle.series.specs.Cells.{cellsSize, cellAt, cellPart, joinedOctets}
 
@@ -92,10 +92,10 @@ module _ (n : ℕ) (s : State) (key : Key) (total number : ℕ) (octets : List �
 
   abbrev pub stepFor : Option ℕ → Step
   stepFor (some i) = stepIn i (slotAt (s .rec .slots) i)
-  stepFor none = stepNew (find isFree (s .rec .slots))
+  stepFor none = stepNew (findIn n isFree (s .rec .slots))
 
   unfoldable pub step : Step
-  step = stepFor (find (bears key) (s .rec .slots))
+  step = stepFor (findIn n (bears key) (s .rec .slots))
 
   -- '"Kept" and "held already" make the series the most recent; no refusal does.' '"Kept" writes exactly the part's octets at the start of its
   -- cell.' "The part that completes a series is not written to the cells .. and the slot becomes free."

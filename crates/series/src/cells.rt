@@ -5,9 +5,8 @@ ghost use mathlib.Core.Path.{_≡_};
 ghost use Prim.Native.Nat.{_≤_};
 ghost use lib.ListN.{length};
 ghost use Rattle.octets.specs.Octets.{placed, sameOctets};
-ghost use Rattle.slots.specs.Slots.{slotCount};
-ghost use Rattle.series.specs.Cells.{cellOctets, cellsSize, cellAt};
-ghost use Rattle.series.specs.Handing.{Place, cellStart, Short, pieceOf};
+ghost use Rattle.series.specs.Cells.{cellOctets, cellAt};
+ghost use Rattle.series.specs.Handing.{Place, Reaches, cellStart, Short, pieceOf};
 
 // Where part k of slot s begins.
 pub(crate) fn cell_at(s: usize, k: usize) -> usize
@@ -20,7 +19,7 @@ pub(crate) fn cell_at(s: usize, k: usize) -> usize
 // The first n octets of a cell, where they are.
 pub(crate) fn cell<'a>(cells: &'a [u8], s: usize, k: usize, n: usize) -> &'a [u8]
     requires { ⌜ Place s k ⌝ }
-    requires { ⌜ (n ≤ cellOctets) × (length (now cells) ≡ cellsSize slotCount) ⌝ }
+    requires { ⌜ (n ≤ cellOctets) × (Reaches s (now cells)) ⌝ }
     ensures { λ r. ⌜ now r ≡ cellStart (now (cells .entry)) s k n ⌝ }
 {
     let from = cell_at(s, k);
@@ -31,7 +30,7 @@ pub(crate) fn cell<'a>(cells: &'a [u8], s: usize, k: usize, n: usize) -> &'a [u8
 // Writes a part at the start of its cell, and nothing else.
 pub(crate) fn store(cells: &mut [u8], s: usize, k: usize, part: &[u8])
     requires { ⌜ Place s k ⌝ }
-    requires { ⌜ (length (now part) ≤ cellOctets) × (length (now cells) ≡ cellsSize slotCount) ⌝ }
+    requires { ⌜ (length (now part) ≤ cellOctets) × (Reaches s (now cells)) ⌝ }
     ensures { λ _. ⌜ now (cells .exit) ≡ placed (now (cells .entry)) (cellAt s k) (now (part .entry)) ⌝ }
 {
     octets::put(part, cells, cell_at(s, k));
@@ -40,7 +39,7 @@ pub(crate) fn store(cells: &mut [u8], s: usize, k: usize, part: &[u8])
 // Whether the first n octets of a cell are the part: as many, and the same.
 pub(crate) fn same_part(cells: &[u8], s: usize, k: usize, n: u8, part: &[u8]) -> bool
     requires { ⌜ Place s k ⌝ }
-    requires { ⌜ (n ≤ cellOctets) × (length (now cells) ≡ cellsSize slotCount) ⌝ }
+    requires { ⌜ (n ≤ cellOctets) × (Reaches s (now cells)) ⌝ }
     ensures { λ r. ⌜ r ≡ sameOctets (cellStart (now (cells .entry)) s k n) (now (part .entry)) ⌝ }
 {
     octets::same(cell(cells, s, k, n as usize), part)
@@ -57,7 +56,7 @@ pub(crate) fn piece<'a>(
 ) -> &'a [u8]
     requires { ⌜ Place s k ⌝ }
     requires { ⌜ Short (now lengths) ⌝ }
-    requires { ⌜ length (now cells) ≡ cellsSize slotCount ⌝ }
+    requires { ⌜ Reaches s (now cells) ⌝ }
     ensures { λ r. ⌜ now r ≡ pieceOf (now (cells .entry)) (now (lengths .entry)) s number (now (part .entry)) k ⌝ }
 {
     if k == number {

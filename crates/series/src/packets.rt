@@ -12,9 +12,9 @@ ghost use lib.ListN.{length, take, drop};
 ghost use Rattle.octets.specs.Octets.{placed};
 ghost use Rattle.arrival.specs.Message.{mostParts};
 ghost use Rattle.joined.specs.Fronts.{packetIn, frontOf, toldSize, lengthIn, outputWith};
-ghost use Rattle.slots.specs.Slots.{slotCount};
-ghost use Rattle.series.specs.Cells.{cellOctets, cellsSize};
-ghost use Rattle.series.specs.Handing.{Short, seriesOctets};
+ghost use Rattle.slots.specs.Slots.{mostSlots};
+ghost use Rattle.series.specs.Cells.{cellOctets};
+ghost use Rattle.series.specs.Handing.{Reaches, Short, seriesOctets};
 
 // ---- the front
 // The front of what the parts of a series join to.
@@ -26,9 +26,9 @@ pub(crate) fn joined_front<'a>(
     number: usize,
     part: &'a [u8],
 ) -> Front
-    requires { ⌜ (s < slotCount) × (total ≤ mostParts) ⌝ }
+    requires { ⌜ (s < mostSlots) × (total ≤ mostParts) ⌝ }
     requires { ⌜ Short (now lengths) ⌝ }
-    requires { ⌜ (length (now part) ≤ cellOctets) × (length (now cells) ≡ cellsSize slotCount) ⌝ }
+    requires { ⌜ (length (now part) ≤ cellOctets) × (Reaches s (now cells)) ⌝ }
     ensures { λ r. ⌜ r ≡ frontOf (seriesOctets (now (cells .entry)) (now (lengths .entry)) total s number (now (part .entry))) ⌝ }
 {
     let mut f = joined::no_front();
@@ -63,9 +63,9 @@ pub(crate) fn join<'a>(
     limit: usize,
     out: &mut [u8],
 )
-    requires { ⌜ (s < slotCount) × (total ≤ mostParts) ⌝ }
+    requires { ⌜ (s < mostSlots) × (total ≤ mostParts) ⌝ }
     requires { ⌜ Short (now lengths) ⌝ }
-    requires { ⌜ length (now cells) ≡ cellsSize slotCount ⌝ }
+    requires { ⌜ Reaches s (now cells) ⌝ }
     requires { ⌜ (limit ≤ length (seriesOctets (now cells) (now lengths) total s number (now part))) × (limit ≤ length (now out)) ⌝ }
     ensures { λ _. ⌜ now (out .exit) ≡ take limit (seriesOctets (now (cells .entry)) (now (lengths .entry)) total s number (now (part .entry))) ++ drop limit (now (out .entry)) ⌝ }
 {
@@ -96,9 +96,9 @@ pub(crate) fn hand_out<'a>(
     part: &'a [u8],
     out: &mut [u8],
 ) -> Size
-    requires { ⌜ (s < slotCount) × (0 < total) × (total ≤ mostParts) ⌝ }
+    requires { ⌜ (s < mostSlots) × (0 < total) × (total ≤ mostParts) ⌝ }
     requires { ⌜ Short (now lengths) ⌝ }
-    requires { ⌜ (length (now part) ≤ cellOctets) × (length (now cells) ≡ cellsSize slotCount) ⌝ }
+    requires { ⌜ (length (now part) ≤ cellOctets) × (Reaches s (now cells)) ⌝ }
     requires { ⌜ length (seriesOctets (now cells) (now lengths) total s number (now part)) ≤ length (now out) ⌝ }
     ensures { λ r. ⌜ toldSize r ≡ lengthIn (packetIn kind paged total (seriesOctets (now (cells .entry)) (now (lengths .entry)) total s number (now (part .entry)))) ⌝ }
     ensures { λ _. ⌜ now (out .exit) ≡ outputWith (packetIn kind paged total (seriesOctets (now (cells .entry)) (now (lengths .entry)) total s number (now (part .entry)))) (now (out .entry)) ⌝ }

@@ -9,13 +9,13 @@ use slots::find::Seat;
 use slots::order;
 use types::Answer;
 use types::Arrival;
-use types::CELLS_OCTETS;
 use types::Key;
 use types::Kind;
 use types::PACKET_OCTETS;
 use types::PARTS;
 use types::Record;
 use types::Refusal;
+use types::SLOT_OCTETS;
 use types::Slot;
 use types::Taken;
 ghost use mathlib.Core.Path.{_≡_};
@@ -29,10 +29,10 @@ ghost use Rattle.packet.specs.Packets.{mostOctets};
 ghost use Rattle.arrival.specs.Arrivals.{toldArrival};
 ghost use Rattle.arrival.specs.Message.{mostParts};
 ghost use Rattle.joined.specs.Fronts.{packetIn, toldSize, lengthIn, outputWith};
-ghost use Rattle.slots.specs.Slots.{slotCount, withPart};
+ghost use Rattle.slots.specs.Slots.{withPart, slotsIn};
 ghost use Rattle.formed.specs.Formed.{recordFormed};
 ghost use Rattle.series.specs.Cells.{cellsSize, cellAt, joinedOctets};
-ghost use Rattle.series.specs.Handing.{Place, Short};
+ghost use Rattle.series.specs.Handing.{Place, Reaches, Short};
 ghost use Rattle.series.specs.Taking as rule;
 ghost use Rattle.series.specs.Taking.{toldAnswer, after};
 ghost use Rattle.series.specs.Deciding.{allWith, toldStep, stepAt, anyKeyOf, answerOf, Room, Whole, fronted, emptied, Holds, Seated, Makes, Fitting, takenWhereFit};
@@ -67,7 +67,7 @@ fn all_with(held: &[bool; PARTS], total: u8, number: u8) -> bool
 fn decide(x: Slot, i: usize, total: u8, number: usize, cells: &[u8], part: &[u8]) -> Step
     requires { ⌜ Place i number ⌝ }
     requires { ⌜ Short (x .lengths) × (x .total ≤ mostParts) ⌝ }
-    requires { ⌜ length (now cells) ≡ cellsSize slotCount ⌝ }
+    requires { ⌜ Reaches i (now cells) ⌝ }
     ensures { λ r. ⌜ toldStep i x r ≡ stepAt (now (cells .entry)) total number (now (part .entry)) i x ⌝ }
 {
     let j = number - 1;
@@ -192,7 +192,7 @@ fn take_more(
 ) -> Change
     requires { ⌜ Room i number (now part) (now cells) ⌝ }
     requires { ⌜ Whole x i number (now part) (now cells) (now out) ⌝ }
-    ensures { λ r. ⌜ Makes (λ s. Holds s kind i x) r (now (cells .exit)) (now (out .exit)) (λ s. rule.acted slotCount (rule.state s (now (cells .entry)) (now (out .entry))) (anyKeyOf paged) total number (now (part .entry)) (stepAt (now (cells .entry)) total number (now (part .entry)) i x)) ⌝ }
+    ensures { λ r. ⌜ Makes (λ s. Holds s kind i x) r (now (cells .exit)) (now (out .exit)) (λ s. rule.acted (slotsIn s) (rule.state s (now (cells .entry)) (now (out .entry))) (anyKeyOf paged) total number (now (part .entry)) (stepAt (now (cells .entry)) total number (now (part .entry)) i x)) ⌝ }
 {
     let step = decide(x, i, total, number, cells, part);
     match step {
@@ -217,7 +217,7 @@ fn take_part(
 ) -> Change
     requires { ⌜ Room (o .slot) number (now part) (now cells) ⌝ }
     requires { ⌜ (o .held ≡ true → Whole x (o .slot) number (now part) (now cells) (now out)) ⌝ }
-    ensures { λ r. ⌜ Makes (λ s. Seated s kind key o x) r (now (cells .exit)) (now (out .exit)) (λ s. rule.takePart slotCount (rule.state s (now (cells .entry)) (now (out .entry))) key total number (now (part .entry))) ⌝ }
+    ensures { λ r. ⌜ Makes (λ s. Seated s kind key o x) r (now (cells .exit)) (now (out .exit)) (λ s. rule.takePart (slotsIn s) (rule.state s (now (cells .entry)) (now (out .entry))) key total number (now (part .entry))) ⌝ }
 {
     let i = o.slot;
     if o.held {
@@ -243,12 +243,13 @@ fn take_single(kind: Kind, paged: bool, part: &[u8], out: &mut [u8]) -> Change
     unchanged(handed(size))
 }
 
-// Whether a buffer lent is of another length than it must be, or the record is not well formed.
+// Whether a buffer lent is of another length than it must be, the cells by the record's number of slots, or the record is not well formed.
 fn unfit(state: Record, cells: usize, out: usize) -> bool
-    ensures { λ r. ⌜ r ≡ (not (eqb cells (cellsSize slotCount)) || not (eqb out mostOctets) || not (recordFormed slotCount state)) ⌝ }
+    ensures { λ r. ⌜ r ≡ (not (eqb cells (cellsSize (state .count))) || not (eqb out mostOctets) || not (recordFormed (state .count) state)) ⌝ }
 {
     let formed = record_formed(state);
-    (cells != CELLS_OCTETS) | (out != PACKET_OCTETS) | !formed
+    let n = state.count as usize;
+    (cells != n * SLOT_OCTETS) | (out != PACKET_OCTETS) | !formed
 }
 
 // The answer and the record, as they are handed back.
@@ -272,7 +273,7 @@ fn take_arrival(
     out: &mut [u8],
 ) -> Taken
     requires { ⌜ Fitting (state .kind) (now octets) arrival ⌝ }
-    ensures { λ r. ⌜ after (toldAnswer (r .answer)) (r .record) (now (cells .exit)) (now (out .exit)) ≡ takenWhereFit slotCount (rule.state state (now (cells .entry)) (now (out .entry))) paged (now (octets .entry)) (toldArrival arrival) ⌝ }
+    ensures { λ r. ⌜ after (toldAnswer (r .answer)) (r .record) (now (cells .exit)) (now (out .exit)) ≡ takenWhereFit (state .count) (rule.state state (now (cells .entry)) (now (out .entry))) paged (now (octets .entry)) (toldArrival arrival) ⌝ }
 {
     if unfit(state, cells.len(), out.len()) {
         return handed_back(Answer::Refused(Refusal::BufferOrRecord), state);
@@ -313,7 +314,7 @@ pub fn take_message(
     cells: &mut [u8],
     out: &mut [u8],
 ) -> Taken
-    ensures { λ r. ⌜ after (toldAnswer (r .answer)) (r .record) (now (cells .exit)) (now (out .exit)) ≡ rule.takeMessage slotCount (rule.state state (now (cells .entry)) (now (out .entry))) sender (now (ud .entry)) ⌝ }
+    ensures { λ r. ⌜ after (toldAnswer (r .answer)) (r .record) (now (cells .exit)) (now (out .exit)) ≡ rule.takeMessage (state .count) (rule.state state (now (cells .entry)) (now (out .entry))) sender (now (ud .entry)) ⌝ }
 {
     let kind = state.kind;
     let arrival = arrival::message::read_message(kind, sender, ud);
@@ -322,7 +323,7 @@ pub fn take_message(
 
 // Takes a page in the same way.
 pub fn take_page(state: Record, page: &[u8], cells: &mut [u8], out: &mut [u8]) -> Taken
-    ensures { λ r. ⌜ after (toldAnswer (r .answer)) (r .record) (now (cells .exit)) (now (out .exit)) ≡ rule.takePage slotCount (rule.state state (now (cells .entry)) (now (out .entry))) (now (page .entry)) ⌝ }
+    ensures { λ r. ⌜ after (toldAnswer (r .answer)) (r .record) (now (cells .exit)) (now (out .exit)) ≡ rule.takePage (state .count) (rule.state state (now (cells .entry)) (now (out .entry))) (now (page .entry)) ⌝ }
 {
     let kind = state.kind;
     let arrival = arrival::page::read_page(kind, page);

@@ -5,7 +5,6 @@ use mathlib.Core.Logic.{⊎-elim}
 use lib.ListN.{length}
 use denote.Ref.{now}
 use Rattle.arrival.specs.Arrivals.{toldArrival}
-use Rattle.slots.specs.Slots.{slotCount}
 use Rattle.series.specs.Taking.{toldAnswer, state, after}
 use Rattle.series.specs.Deciding.{changed, takenWhereFit}
 use Rattle.series.proofs.TakeSteps.{as-change, moved-so, stayed-so, takes-refused, takes-single, takes-part, part-done, fit-sound, takeSteps}
@@ -19,7 +18,7 @@ start c = c .before .before .before .before .before .before
 -- where the arms meet, the change comes to what is due of the record
 done : (c : tie.At-match-came)
     → after (toldAnswer (c .match .c .answer)) (changed (start c .args .t1) (c .match .c)) (c .match .cells) (c .match .out)
-    ≡ takenWhereFit slotCount (state (start c .args .t1) (now (start c .args .cells)) (now (start c .args .out))) (start c .args .paged) (now (start c .args .octets)) (toldArrival (start c .args .arrival))
+    ≡ takenWhereFit (start c .args .t1 .count) (state (start c .args .t1) (now (start c .args .cells)) (now (start c .args .out))) (start c .args .paged) (now (start c .args .octets)) (toldArrival (start c .args .arrival))
 done c =
     let fit = c .before .if1 .left in
     let test = c .before .before .unfit .ensures in

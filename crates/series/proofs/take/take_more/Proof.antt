@@ -4,7 +4,10 @@ use Rattle.series.proofs.take.take_more.Statement.{statement}
 use Rattle.series.proofs.take.take_more.Tie as tie
 
 returns-4 : tie.Need-returns-4
-returns-4 c = search (acts-finishes, c .before .before .finish .ensures .0 .0, c .before .before .finish .ensures .0 .1, c .before .before .finish .ensures .1, c .before .before .before .before .before .enum-told3 .given, c .before .before .before .before .before .before .before .decide .ensures, c .before .before .before .before .before .before .before .before .before .before .before .before .pre .0)
+returns-4 c =
+    let before = c .before .before .before .before .before .before .before in
+    acts-finishes _ _ _ _ _ _ _ _ _ _ (before .decide .ensures) _ _ (c .before .before .before .before .before .enum-told3 .given .1) (c .before .before .finish .ensures .0 .0)
+    (c .before .before .finish .ensures .0 .1) (c .before .before .finish .ensures .1)
 
 pub take-more-spec : {M : Type 1} → statement M
 take-more-spec =

@@ -3,11 +3,7 @@ use Rattle.series.proofs.TakeSteps.{takeSteps}
 use Rattle.series.proofs.take.unfit.Statement.{statement}
 use Rattle.series.proofs.take.unfit.Tie as tie
 
-record-formed-requires : tie.Need-record-formed-requires
-record-formed-requires c κs = search takeSteps
-
-returns : tie.Need-returns
-returns c = search takeSteps
-
 pub unfit-spec : {M : Type 1} → statement M
-unfit-spec = tie.close (tie.spec record-formed-requires returns)
+unfit-spec =
+    tie.close
+    (tie.spec (λ c κs. search takeSteps) (λ c. search takeSteps) (λ c. search takeSteps) (λ c. search takeSteps))
