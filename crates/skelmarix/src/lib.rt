@@ -1,11 +1,12 @@
 // Skelmarix: secured packets over short messages and cell broadcast pages. What a user names of the crates below, and nothing of its own; the
 // calls that only these crates make of one another stay with them.
 
-// Sizes of what a caller lends, and the number of slots.
+// Sizes of what a caller lends, and the most slots of a record.
 pub use types::CELLS_OCTETS;
 pub use types::CHECKSUM_OCTETS;
 pub use types::PACKET_OCTETS;
 pub use types::PAGE_OCTETS;
+pub use types::SLOT_OCTETS;
 pub use types::SLOTS;
 pub use types::USER_DATA_OCTETS;
 
@@ -61,7 +62,10 @@ pub use formed::record_formed;
 pub use series::take::take_message;
 pub use series::take::take_page;
 pub use slots::find::fresh as fresh_record;
+pub use slots::find::fresh_with as fresh_record_with;
 pub use types::Answer;
+pub use types::Made;
+pub use types::Making;
 pub use types::Record;
 pub use types::Slot;
 pub use types::Taken;
