@@ -4,7 +4,7 @@ use mathlib.Core.Path.{_≡_, refl, sym, ap, _∙_, subst}
 use mathlib.Core.Bool.{Bool, true, false, cond, not, _||_}
 use mathlib.Core.List.{List, [], _∷_}
 use native.Mathlib.Omega.{arith}
-use lib.ListN.{length, drop, replicate, getD-replicate}
+use lib.ListN.{length, drop}
 use borrow.Author.Tests.{eq-eqb, eqb-true, not-false}
 use lib.Dec.{eqb}
 use Rattle.octets.specs.Octets.{Octets}
@@ -16,15 +16,15 @@ use Rattle.types.specs.declared.Key.{Key}
 use Rattle.arrival.specs.Arrivals.{part}
 use Rattle.arrival.specs.Laws.{Admitted}
 use Rattle.types.specs.declared.Slot.{Slot}
-use Rattle.slots.specs.Slots.{slotAt, freeSlot}
+use Rattle.slots.specs.Slots.{slotAt, freshRecord}
 use Rattle.formed.specs.Formed.{recordFormed}
-use Rattle.formed.specs.Laws.{Formed, formed-told, fresh-formed}
+use Rattle.formed.specs.Laws.{Formed, formed-told, fresh-slot, fresh-formed}
 use Rattle.series.specs.Cells.{cellsSize}
 use Rattle.series.specs.Taking.{State, After, state, refuse, unfit, taken, takeMessage, takePage}
 use Rattle.series.specs.KeepLaws.{Sound, taken-sound, taken-kind}
 use Rattle.series.specs.Calls.{Input, message, page, octetsOf, read, takeInput}
 use Rattle.demands.specs.Always.{BringsOctets, AlwaysFormed, NoKeyTwice}
-use Rattle.demands.specs.Runs.{Call, Store, fresh, outcome, left, run, Proper, Each}
+use Rattle.demands.specs.Runs.{Slots, Call, Store, fresh, outcome, left, run, Proper, Each}
 
 abbrev pub isPage : Input → Bool
 isPage (message sender ud) = false
@@ -39,14 +39,14 @@ taking-any n s (page o) = refl
 -- ---- with buffers of 01's lengths it is not refused 1
 module _ (n : ℕ) (s : State) (w : Sound n (s .rec) (s .cells)) (size : length (s .output) ≡ mostOctets) where
   fit : unfit n s ≡ false
-  fit = rw (eq-eqb (length (s .cells)) (cellsSize n) (w .size), eq-eqb (length (s .output)) mostOctets size, formed-told n (s .rec .kind) (s .rec .slots) (w .formed))
+  fit = rw (eq-eqb (length (s .cells)) (cellsSize n) (w .size), eq-eqb (length (s .output)) mostOctets size, eq-eqb (s .rec .count) n (w .number), formed-told n (s .rec .kind) (s .rec .slots) (w .formed))
 
   pub taking : (i : Input) → takeInput n s i ≡ taken n s (isPage i) (octetsOf i) (read (s .rec .kind) i)
   taking i = taking-any n s i ∙ rw fit
 
 -- ---- a fresh record holds no series
-pub fresh-free : (n j : ℕ) → j < n → 0 < slotAt (replicate n freeSlot) j .rank → ⊥
-fresh-free n j l u = let f : slotAt (replicate n freeSlot) j ≡ freeSlot = getD-replicate n j freeSlot _ l in omega (arith, ap (λ (x : Slot). x .rank) f)
+pub fresh-free : (n : ℕ) (k : Kind) → Slots n → (j : ℕ) → j < n → 0 < slotAt (freshRecord n k .slots) j .rank → ⊥
+fresh-free n k some j l u = omega (arith, ap (λ (x : Slot). x .rank) (fresh-slot n k j (omega (arith, some .most))))
 
 -- ---- what holds of every store that calls lead to
 pub record Kept (n : ℕ) (k : Kind) (st : Store) : Type 0 where
@@ -59,18 +59,18 @@ Admits k c =
     (key : Key) (total number start : ℕ) → read k (c .input) ≡ reading.gives (part key total number start)
     → Admitted k key total number (drop start (octetsOf (c .input)))
 
-module _ (n : ℕ) (pos : 0 < n) (k : Kind) where
+module _ (n : ℕ) (pos : Slots n) (k : Kind) where
   -- one call
   pub kept-call : (st : Store) → Kept n k st → (c : Call) → length (c .output) ≡ mostOctets → Admits k c → Kept n k (left (outcome n st c))
   kept-call st w c size adm =
       let s : State = state (st .rec) (st .cells) (c .output) in
       let e = taking n s (w .sound) size (c .input) in record {
         kind = rw e (taken-kind n s (isPage (c .input)) (octetsOf (c .input)) (read (st .rec .kind) (c .input)) ∙ w .kind);
-        sound = rw e (taken-sound n pos s (w .sound) (isPage (c .input)) (octetsOf (c .input)) (read (st .rec .kind) (c .input)) (rw (w .kind) adm));
+        sound = rw e (taken-sound n s (w .sound) (isPage (c .input)) (octetsOf (c .input)) (read (st .rec .kind) (c .input)) (rw (w .kind) adm));
       }
 
   fresh-kept : (cells : List ℕ) → length cells ≡ cellsSize n → Kept n k (fresh n k cells)
-  fresh-kept cells size = record { kind = refl; sound = record { formed = fresh-formed n k; size = size } }
+  fresh-kept cells size = record { kind = refl; sound = record { number = refl; formed = fresh-formed n k (pos .some) (pos .most); size = size } }
 
   each-rest : (P : Call → Type 0) (c : Call) (cs : List Call) → Each P (c ∷ cs) → Each P cs
   each-rest P c cs all u d v e = all (c ∷ u) d v (ap (λ (l : List Call). c ∷ l) e)
@@ -89,10 +89,10 @@ module _ (n : ℕ) (pos : 0 < n) (k : Kind) where
 
     -- and whatever lengths the buffers have: with others a call is refused 1, and leaves what it was given
     abbrev pub Formed′ : Store → Type 0
-    Formed′ st = (st .rec .kind ≡ k) × Formed n k (st .rec .slots)
+    Formed′ st = (st .rec .kind ≡ k) × (st .rec .count ≡ n) × Formed n k (st .rec .slots)
 
     pub formed-call : (st : Store) → Formed′ st → (c : Call) → Octets (octetsOf (c .input)) → Formed′ (left (outcome n st c))
-    formed-call st (e, w) c bytes =
+    formed-call st (e, number, w) c bytes =
         subst (λ (a : After). Formed′ (left a)) (sym (taking-any n s (c .input))) (go (unfit n s) refl)
       where
         s : State
@@ -100,29 +100,33 @@ module _ (n : ℕ) (pos : 0 < n) (k : Kind) where
 
         go : (b : Bool) → unfit n (state (st .rec) (st .cells) (c .output)) ≡ b
             → Formed′ (left (cond b (refuse 1 (state (st .rec) (st .cells) (c .output))) (taken n (state (st .rec) (st .cells) (c .output)) (isPage (c .input)) (octetsOf (c .input)) (read (st .rec .kind) (c .input)))))
-        go true u = (e, w)
+        go true u = (e, number, w)
         go false u =
             let (a, f) = neither (not (eqb (length (st .cells)) (cellsSize n)) || not (eqb (length (c .output)) mostOctets)) (not (recordFormed n (st .rec))) u in
             let (cs, os) = neither (not (eqb (length (st .cells)) (cellsSize n))) (not (eqb (length (c .output)) mostOctets)) a in
             let sound : Sound n (st .rec) (st .cells) = record {
+              number = number;
               formed = subst (λ (x : Kind). Formed n x (st .rec .slots)) (sym e) w;
               size = eqb-true (length (st .cells)) (cellsSize n) (not-false (eqb (length (st .cells)) (cellsSize n)) cs);
             } in
             let same-kind = taken-kind n (state (st .rec) (st .cells) (c .output)) (isPage (c .input)) (octetsOf (c .input)) (read (st .rec .kind) (c .input)) ∙ e in
-            let after = taken-sound n pos (state (st .rec) (st .cells) (c .output)) sound (isPage (c .input)) (octetsOf (c .input)) (read (st .rec .kind) (c .input)) (rw e (admits c bytes)) in
-            (same-kind, subst (λ (x : Kind). Formed n x (taken n (state (st .rec) (st .cells) (c .output)) (isPage (c .input)) (octetsOf (c .input)) (read (st .rec .kind) (c .input)) .state .rec .slots)) same-kind (after .formed))
+            let after = taken-sound n (state (st .rec) (st .cells) (c .output)) sound (isPage (c .input)) (octetsOf (c .input)) (read (st .rec .kind) (c .input)) (rw e (admits c bytes)) in
+            (same-kind, after .number, subst (λ (x : Kind). Formed n x (taken n (state (st .rec) (st .cells) (c .output)) (isPage (c .input)) (octetsOf (c .input)) (read (st .rec .kind) (c .input)) .state .rec .slots)) same-kind (after .formed))
 
     formed-run : (calls : List Call) (st : Store) → Formed′ st → Each BringsOctets calls → Formed′ (run n st calls)
     formed-run [] st w all = w
     formed-run (c ∷ cs) st w all = formed-run cs (left (outcome n st c)) (formed-call st w c (all [] c cs refl)) (each-rest BringsOctets c cs all)
 
+    pub fresh-all : (cells : List ℕ) → Formed′ (fresh n k cells)
+    fresh-all cells = (refl, refl, fresh-formed n k (pos .some) (pos .most))
+
     formed-fresh : (cells : List ℕ) (calls : List Call) → Each BringsOctets calls → Formed′ (run n (fresh n k cells) calls)
-    formed-fresh cells calls all = formed-run calls (fresh n k cells) (refl, fresh-formed n k) all
+    formed-fresh cells calls all = formed-run calls (fresh n k cells) (fresh-all cells) all
 
     pub always-formed : AlwaysFormed n k
     always-formed cells calls all =
-        let (e, w) = formed-fresh cells calls all in
-        rw e (formed-told n k (run n (fresh n k cells) calls .rec .slots) w)
+        let (e, number, w) = formed-fresh cells calls all in
+        rw (e, eq-eqb (run n (fresh n k cells) calls .rec .count) n number) (formed-told n k (run n (fresh n k cells) calls .rec .slots) w)
 
     pub no-key-twice : NoKeyTwice n k
-    no-key-twice cells calls all = formed-fresh cells calls all .1 .keys
+    no-key-twice cells calls all = formed-fresh cells calls all .2 .keys

@@ -21,21 +21,21 @@ use Rattle.types.specs.declared.Slot.{Slot}
 use Rattle.slots.specs.Slots.{slotAt, opened, atRank, withPart, withSlots, aged, closed, toFront, freed}
 use Rattle.slots.specs.RankLaws.{aged-taken, closed-taken}
 use Rattle.slots.specs.FrontLaws.{front-here, front-there, freed-here, freed-there}
-use Rattle.formed.specs.Laws.{Formed, fresh-formed}
+use Rattle.formed.specs.Laws.{Formed, array-holds}
 use Rattle.series.specs.Cells.{joinedOctets}
 use Rattle.series.specs.Taking.{State, After, Answer, state, kept, heldAlready, packet, refusedBy, Step, acted, handOut, step, takePart, taken, unfit, refuse}
 use Rattle.series.specs.CaseLaws.{Bears, Lacks, Case, other-total, other-octets, again, last, more, opens, displaces, case-of}
 use Rattle.series.specs.Calls.{Input, octetsOf, read, takeInput}
 use Rattle.demands.specs.Lists.{elemKey, addKey, dropKey}
-use Rattle.demands.specs.Runs.{Call, Store, fresh, outcome, left, run, Each}
+use Rattle.demands.specs.Runs.{Slots, Call, Store, fresh, outcome, left, run, Each}
 use Rattle.demands.specs.Always.{BringsOctets}
 use Rattle.demands.specs.Crowding.{unfinishedAfter, unfinishedWith, unfinished, NeverDisplaced}
 use Rattle.demands.proofs.Lists.{elem-key-add, elem-key-self, elem-dropped, pigeon, keys-apart}
 use Rattle.demands.proofs.Track.{key-there, used-before}
-use Rattle.demands.proofs.Calls.{isPage, taking-any, fresh-free, Formed′, formed-call}
+use Rattle.demands.proofs.Calls.{isPage, taking-any, fresh-free, Formed′, fresh-all, formed-call}
 use Rattle.demands.proofs.Wake.{admits}
 
-module _ (n : ℕ) (pos : 0 < n) (k : Kind) where
+module _ (n : ℕ) (pos : Slots n) (k : Kind) where
   -- the key of every used slot is unfinished
   abbrev Held : List Slot → List Key → Type 0
   Held xs l = (j : ℕ) → j < n → 0 < slotAt xs j .rank → elemKey (slotAt xs j .key) l ≡ true
@@ -56,13 +56,13 @@ module _ (n : ℕ) (pos : 0 < n) (k : Kind) where
         → Held (toFront xs j y) l′
     fronted j inside y l′ keeps e =
         moved (toFront xs j y) j (aged (slotAt xs j .rank)) (aged-taken (slotAt xs j .rank)) (front-there xs j y) l′
-        (λ m a ne u. keeps (slotAt xs m .key) (held m a u)) (λ u. rw (front-here xs j y (omega (arith, w .size))) e)
+        (λ m a ne u. keeps (slotAt xs m .key) (held m a u)) (λ u. rw (front-here xs j y (omega (arith, array-holds n k xs w))) e)
 
     ended : (X : Key) (j : ℕ) → Bears n xs X j → Held (freed xs j) (dropKey X l)
     ended X j b =
         moved (freed xs j) j (closed (slotAt xs j .rank)) (λ q. closed-taken (slotAt xs j .rank) q (b .used)) (freed-there xs j) (dropKey X l)
         (λ m a ne u. elem-dropped X (slotAt xs m .key) l (λ e. ne (w .keys m j a (b .inside) u (b .used) (e ∙ sym (b .key)))) (held m a u))
-        (λ u. absurd (omega (arith, ap (λ (x : Slot). x .rank) (freed-here xs j (omega (arith, w .size, b .inside))))))
+        (λ u. absurd (omega (arith, ap (λ (x : Slot). x .rank) (freed-here xs j (omega (arith, array-holds n k xs w, b .inside))))))
 
     -- n used slots, and a key that none of them bears
     crowded : (X : Key) → Lacks n xs X → ((j : ℕ) → j < n → 0 < slotAt xs j .rank) → n < length (addKey X l)
@@ -131,7 +131,7 @@ module _ (n : ℕ) (pos : 0 < n) (k : Kind) where
     by-reading paged o (reading.refused m) = (held, unmarked (refusedBy m) refl)
     by-reading paged o (reading.gives (single start)) = handed (packetIn (s .rec .kind) paged 1 (drop start o))
     by-reading paged o (reading.gives (part X total number start)) =
-        by-case X total number (drop start o) (step n s X total number (drop start o)) (case-of n s X total number (drop start o) pos w)
+        by-case X total number (drop start o) (step n s X total number (drop start o)) (case-of n s X total number (drop start o) w)
 
     unfit-call : (r : reading.Outcome Brought) → Fine (unfinishedWith r (refuse 1 s .answer) l) (refuse 1 s)
     unfit-call (reading.refused m) = (held, unmarked (refusedBy 1) refl)
@@ -152,7 +152,7 @@ module _ (n : ℕ) (pos : 0 < n) (k : Kind) where
 
   one-call : (st : Store) → Formed′ n pos k (admits k) st → (l : List Key) → Held (st .rec .slots) l → (c : Call)
       → Fine (unfinishedWith (read k (c .input)) (outcome n st c .answer) l) (outcome n st c)
-  one-call st (kind, w) l held c =
+  one-call st (kind, number, w) l held c =
       any-call (state (st .rec) (st .cells) (c .output)) (subst (λ (x : Kind). Formed n x (st .rec .slots)) (sym kind) w) kind l held (c .input)
 
   -- ---- any list of calls
@@ -166,5 +166,5 @@ module _ (n : ℕ) (pos : 0 < n) (k : Kind) where
 
   pub never-displaced : NeverDisplaced n k
   never-displaced cells calls bytes few u c v e =
-      never u (fresh n k cells) [] (refl, fresh-formed n k) (λ j a u. absurd (fresh-free n j a u)) c v
+      never u (fresh n k cells) [] (fresh-all n pos k (admits k) cells) (λ j a u. absurd (fresh-free n k pos j a u)) c v
       (subst (Each BringsOctets) e bytes) (few (u ++ c ∷ []) v (e ∙ sym (append-assoc u (c ∷ []) v)))

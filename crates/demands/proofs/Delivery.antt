@@ -31,7 +31,7 @@ use Rattle.series.specs.Calls.{Input, message, page, octetsOf, read}
 use Rattle.split.specs.Splitting as split
 use Rattle.split.specs.Laws.{some-part, page-ends, message-given, page-given}
 use Rattle.demands.specs.Lists.{elem, add, complete}
-use Rattle.demands.specs.Runs.{Call, Store, fresh, outcome, run, Proper, Each}
+use Rattle.demands.specs.Runs.{Slots, Call, Store, fresh, outcome, run, Proper, Each}
 use Rattle.demands.specs.Wake.{Cut, History, begin, historyAfter, follow, EachWith}
 use Rattle.demands.specs.SplitTaken.{listed, keyUnder, Sent, Sending}
 use Rattle.demands.specs.Delivery.{Brings, nothing-more, next, InParts, Delivered, MessagesDelivered, PagesDelivered, MessagesWritten, PagesWritten}
@@ -50,7 +50,7 @@ first-or-later {A} j m order e f g = go (same? j m)
     go (same q p) = f p
     go (other q p) = g (simp q at e)
 
-module _ (n : ℕ) (pos : 0 < n) (k : Kind) (K : Key) (P : List ℕ) (t : ℕ) (octets : ℕ → List ℕ) (written : ℕ → Input)
+module _ (n : ℕ) (pos : Slots n) (k : Kind) (K : Key) (P : List ℕ) (t : ℕ) (octets : ℕ → List ℕ) (written : ℕ → Input)
     (splits : Splits k K P t octets written) (one : 1 ≤ t) (formed : wellFormed k P ≡ true)
     (bytes : (m : ℕ) → 1 ≤ m → m ≤ t → Octets (octetsOf (written m))) where
   all-proper : {order : List ℕ} {calls : List Call} → Brings t written order calls → All Proper calls
@@ -73,7 +73,7 @@ module _ (n : ℕ) (pos : 0 < n) (k : Kind) (K : Key) (P : List ℕ) (t : ℕ) (
     all-sent : {order : List ℕ} {calls : List Call} → Brings t written order calls → (w : History) → w .othersSince ≡ [] → Along n k K t (Sent n t written) w calls
     all-sent nothing-more w z = tt
     all-sent (next m low high c is size rest) w z = (
-      (λ total number start e o. record { which = m; low = low; high = high; is = is; fewOthers = λ ne. rw z pos }),
+      (λ total number start e o. record { which = m; low = low; high = high; is = is; fewOthers = λ ne. rw z (pos .some) }),
       all-sent rest (follow n k K w (c ∷ [])) (seen-part w m low high c is .1),
     )
 
@@ -140,13 +140,13 @@ module _ (n : ℕ) (pos : 0 < n) (k : Kind) (K : Key) (P : List ℕ) (t : ℕ) (
   }
 
 -- ---- messages and pages
-pub messages-delivered : (n : ℕ) → 0 < n → MessagesDelivered n
+pub messages-delivered : (n : ℕ) → Slots n → MessagesDelivered n
 messages-delivered n pos k sender width reference P octets formed fits most =
     delivered n pos k (keyUnder sender width reference) P (split.parts width (length P)) (split.partOctets width P)
     (λ number. message sender (split.userData k width reference P number)) (messages-split k sender width reference P fits most) (some-part width (length P)) formed
     (λ m low high. user-data-octets k width reference P m fits most high octets)
 
-pub pages-delivered : (n : ℕ) → 0 < n → PagesDelivered n
+pub pages-delivered : (n : ℕ) → Slots n → PagesDelivered n
 pages-delivered n pos serial identifier dcs P small each-dcs octets formed inside most =
     let f = formed-facts Command P formed in
     delivered n pos Command (pageKey serial identifier) P (split.pages (length P)) (split.contentOf P)

@@ -1,7 +1,6 @@
--- The three demands hold: each theorem at three slots.
-use native.Mathlib.Omega.{arith}
-use Prim.Native.Nat.{_<_}
-use Rattle.slots.specs.Slots.{slotCount}
+-- The three demands hold, for each number of slots.
+use Prim.Native.Nat.{ℕ}
+use Rattle.demands.specs.Runs.{Slots}
 use Rattle.demands.specs.Demands.{Demand1, Demand2, Demand3}
 use Rattle.demands.proofs.Calls as calls
 use Rattle.demands.proofs.Wake as wake
@@ -14,18 +13,16 @@ use Rattle.demands.proofs.Checked as checked
 use Rattle.demands.proofs.SplitTaken as split
 use Rattle.demands.proofs.Delivery as delivery
 
-some : 0 < slotCount
-some = omega arith
-
 pub demand-1 : Demand1
 demand-1 = record {
-  taking = refusing.taking-refused slotCount some;
+  taking = refusing.taking-refused;
   parsing = refusing.parsing-refused;
   building = refusing.building-refused;
   checksum-octets = refusing.checksum-refused;
   writing-user-data = refusing.writing-refused;
   writing-a-page = refusing.page-refused;
-  unfit = refusing.unfit-refused slotCount;
+  unfit = refusing.unfit-refused;
+  making-a-record = refusing.making-refused;
 }
 
 pub demand-2 : Demand2
@@ -44,10 +41,10 @@ demand-2 = record {
   builds-or-refuses = trips.builds-or-refuses;
   split-messages = trips.split-messages;
   split-pages = trips.split-pages;
-  messages-arrive = split.messages-arrive slotCount some;
-  pages-arrive = split.pages-arrive slotCount some;
-  messages-delivered = delivery.messages-delivered slotCount some;
-  pages-delivered = delivery.pages-delivered slotCount some;
+  messages-arrive = split.messages-arrive;
+  pages-arrive = split.pages-arrive;
+  messages-delivered = delivery.messages-delivered;
+  pages-delivered = delivery.pages-delivered;
   messages-written = delivery.messages-written;
   pages-written = delivery.pages-written;
   order-free = orders.order-free;
@@ -56,11 +53,11 @@ demand-2 = record {
   last-replaces = twice.last-replaces;
 }
 
-pub demand-3 : Demand3
-demand-3 = record {
-  wake-window = wake.wake-window slotCount some;
-  packet-comes = wake.packet-comes slotCount some;
-  always-formed = λ k. calls.always-formed slotCount some k (wake.admits k);
-  no-key-twice = λ k. calls.no-key-twice slotCount some k (wake.admits k);
-  never-displaced = crowding.never-displaced slotCount some;
+pub demand-3 : (n : ℕ) → Slots n → Demand3 n
+demand-3 n good = record {
+  wake-window = wake.wake-window n good;
+  packet-comes = wake.packet-comes n good;
+  always-formed = λ k. calls.always-formed n good k (wake.admits k);
+  no-key-twice = λ k. calls.no-key-twice n good k (wake.admits k);
+  never-displaced = crowding.never-displaced n good;
 }

@@ -1,39 +1,51 @@
--- The premises of the wake window can be met, and its number is the right one: both sequences are computed.
-use Prim.Native.Nat.{ℕ, zero, suc, _≤_, _<_}
-use mathlib.Core.Path.{_≡_, refl, sym, ap}
-use mathlib.Core.Bool.{Bool, true, false}
+-- The premises of the wake window can be met, and its number is the right one. Each call of the crowd brings a key that is not held, so it comes
+-- to the front of a free slot, or of the least recent one: after m of them the first key has a rank above m, and with n slots there is none
+-- above n. Between the two parts the other keys are as many as their calls.
+use Prim.Native.Nat.{ℕ, zero, suc, _+_, _-_, _≤_, _<_}
+use mathlib.Core.Path.{_≡_, refl, sym, ap, _∙_, subst}
+use mathlib.Core.Bool.{Bool, true, false, cond}
 use mathlib.Core.List.{List, [], _∷_, _++_}
+use mathlib.Core.Logic.{⊎-elim}
+use native.Mathlib.Nat.{eq-or-lt-of-le}
 use native.Mathlib.Omega.{arith}
-use lib.ListN.{length, getD, length-replicate, List·getD-eq-default}
+use lib.ListN.{length, drop, getD, length-replicate, List·getD-eq-default}
 use lib.Dec.{ltb}
-use borrow.Author.Tests.{ltb-true, ltb-false}
-use Rattle.octets.specs.Octets.{Octets, sameOctets, placed}
-use Rattle.octets.specs.Joined.{joined}
+use borrow.Author.Tests.{ltb-true, ltb-false, ne-eqb}
+use Rattle.octets.specs.Octets.{Octets}
+use Rattle.octets.specs.Tests.{clash, Same, same, other, same?}
+use Rattle.types.specs.declared.Kind.{Kind}
 use Rattle.types.specs.declared.Kind.the-variants.{Command}
 use Rattle.types.specs.Refusals as reading
 use Rattle.packet.specs.Packets.{mostOctets}
 use Rattle.types.specs.declared.Key.{Key}
-use Rattle.arrival.specs.Arrivals.{part}
+use Rattle.types.specs.declared.Slot.{Slot}
+use Rattle.arrival.specs.Arrivals.{Brought, single, part}
 use Rattle.header.specs.Header.{elementsAfter, summary}
 use Rattle.arrival.specs.Message.{judged, readMessage}
-use Rattle.arrival.specs.Keys.{keyFormed, lengthFits}
-use Rattle.joined.specs.Fronts.{packetIn}
-use Rattle.slots.specs.Below.{allBelow, anyBelow, countBelow}
-use Rattle.slots.specs.BelowLaws.{all-at}
-use Rattle.slots.specs.Slots.{slotCount, find, aged, closed, toFront, freed}
-use Rattle.formed.specs.Formed.{allZero, usedFormed, slotFormed, keysDiffer, ranked, slotsFormed}
-use Rattle.series.specs.Cells.{cellsSize, cellPart, joinedOctets}
-use Rattle.series.specs.Taking.{step, takePart, takeMessage, packet}
+use Rattle.slots.specs.Below.{allBelow}
+use Rattle.slots.specs.BelowLaws.{all-at, count-at-most}
+use Rattle.slots.specs.RankLaws.{hasRank, rank-bound, ranks-differ, Aged, free, moves, yields, stays, aged?}
+use Rattle.slots.specs.FrontLaws.{front-here, front-there}
+use Rattle.slots.specs.Slots.{slotAt, opened, atRank, withPart, withSlots, sameKey, aged, agedSlot, toFront}
+use Rattle.formed.specs.Laws.{Formed, array-holds}
+use Rattle.series.specs.Cells.{cellsSize}
+use Rattle.series.specs.Taking as Taking
+use Rattle.series.specs.Taking.{State, After, state, after, Step, acted, step, takePart, taken, packet}
+use Rattle.series.specs.CaseLaws.{Lacks, Case, other-total, other-octets, again, last, more, opens, displaces, case-of}
+use Rattle.series.specs.Calls.{Input, octetsOf, read}
 use Rattle.demands.specs.Examples.{M}
-use Rattle.series.specs.Calls.{Input}
-use Rattle.demands.specs.Runs.{Call, fresh, outcome, run, Proper}
-use Rattle.demands.specs.Wake.{messages, History, follow, Fair, begin}
-use Rattle.demands.proofs.Calls.{fresh-free}
-use Rattle.demands.proofs.Along.{All, each, Here, each-with}
-use Rattle.demands.specs.Reached.{key, halves, call, first, second, other, cells, two, Met, Missed, longest, longestPaged, asMessage, asPage, inOrder, Longest}
-use Rattle.demands.specs.SplitTaken.{listed}
+use Rattle.demands.specs.Lists.{elemKey, addKey}
+use Rattle.demands.specs.Runs.{Slots, Call, Store, fresh, outcome, left, run, Proper}
+use Rattle.demands.specs.Wake as window
+use Rattle.demands.specs.Wake.{messages, History, historyAfter, counts, follow, Fair, begin}
+use Rattle.demands.specs.Reached as reached
+use Rattle.demands.specs.Reached.{key, halves, call, first, second, others, crowd, cells, Met, Missed, longest, longestPaged, asMessage, asPage, inOrder, Longest}
+use Rattle.demands.specs.SplitTaken.{listed, keyUnder}
 use Rattle.demands.specs.Delivery.{Brings, nothing-more, next}
+use Rattle.demands.proofs.Calls.{isPage, taking, fresh-free, Kept, kept-proper, kept-fresh}
+use Rattle.demands.proofs.Along.{All, each, Here, Along, each-with}
 use Rattle.demands.proofs.Written.{and, small-octets, zero-small}
+use Rattle.demands.proofs.Wake.{admits, wake-window}
 use Rattle.demands.proofs.Delivery.{messages-delivered, pages-delivered}
 
 -- ---- the premises
@@ -47,91 +59,355 @@ octets-of l e i = go (ltb i (length l)) refl
 same-part : {K₁ K₂ : Key} {t₁ t₂ m₁ m₂ s₁ s₂ : ℕ} → reading.gives (part K₁ t₁ m₁ s₁) ≡ reading.gives (part K₂ t₂ m₂ s₂) → (K₁ ≡ K₂) × (t₁ ≡ t₂) × (m₁ ≡ m₂) × (s₁ ≡ s₂)
 same-part e = (cc, cc, cc, cc)
 
-module _ (b : ℕ) where
-  -- what is seen before each call
-  abbrev w₀ : History
-  w₀ = begin slotCount Command (cells b) []
+-- two runs, one after the other
+run-more : (n : ℕ) (u v : List Call) (st : Store) → run n st (u ++ v) ≡ run n (run n st u) v
+run-more n [] v st = refl
+run-more n (c ∷ u) v st = run-more n u v (left (outcome n st c))
 
-  abbrev w₁ : History
-  w₁ = follow slotCount Command key w₀ (first b ∷ [])
+-- a key that is put in is one more at most
+add-most : (X : Key) (l : List Key) → length (addKey X l) ≤ suc (length l)
+add-most X l = go (elemKey X l)
+  where
+    go : (t : Bool) → length (cond t l (X ∷ l)) ≤ suc (length l)
+    go true = omega arith
+    go false = omega arith
 
-  abbrev w₂ : History
-  w₂ = follow slotCount Command key w₁ (other b 2 ∷ [])
+module _ (n : ℕ) (good : Slots n) (b : ℕ) where
+  -- the key of a sender with the reference 2A
+  abbrev keyOf : ℕ → Key
+  keyOf sender = keyUnder sender 8 0x2A
 
-  abbrev w₃ : History
-  w₃ = follow slotCount Command key w₂ (other b 3 ∷ [])
+  abbrev ranks : Store → ℕ → ℕ
+  ranks st j = slotAt (st .rec .slots) j .rank
 
-  abbrev Fair′ : History → Call → Type 0
-  Fair′ = Here slotCount Command key 2 (Fair slotCount Command key M halves)
+  abbrev keys : Store → ℕ → Key
+  keys st j = slotAt (st .rec .slots) j .key
 
-  fair-first : Fair′ w₀ (first b)
-  unfolding elementsAfter summary judged readMessage
-  fair-first total number start e o =
-      let (k, t, m, s) = same-part e in record { counted = sym t; brought = rw (← m, ← s); fewOthers = λ ne. absurd (ne refl) }
+  -- ---- n other keys
+  -- after m keys, those of the senders 1 to m: key 1 has a rank of at least m, and the first m slots are used
+  record Crowd (m : ℕ) (st : Store) : Type 0 where
+    kept : Kept n Command st
+    behind : (j : ℕ) → j < n → 0 < ranks st j → keys st j ≡ key → m ≤ ranks st j
+    low : (j : ℕ) → j < n → 0 < ranks st j → keys st j .sender ≤ m
+    filled : (j : ℕ) → j < n → j < m → 0 < ranks st j
 
-  fair-other : (w : History) (sender : ℕ) → (sender ≡ 1 → ⊥) → Fair′ w (other b sender)
-  unfolding elementsAfter summary judged readMessage
-  fair-other w sender ne total number start e o = absurd (ne (ap (λ (k : Key). k .sender) (same-part e .0)))
+  -- a call with a key that is not held: where its series goes
+  module _ (st : Store) (w : Kept n Command st) (c : Call) (p : Proper c) (X : Key) (total number start : ℕ)
+      (reads : read Command (c .input) ≡ reading.gives (part X total number start)) (lacks : Lacks n (st .rec .slots) X) where
+    abbrev xs : List Slot
+    xs = st .rec .slots
 
-  two-keys : length (w₃ .othersSince) ≡ 2
-  unfolding sameOctets placed joined elementsAfter summary judged readMessage keyFormed lengthFits allBelow anyBelow countBelow find aged closed toFront freed allZero usedFormed slotFormed keysDiffer ranked slotsFormed cellPart joinedOctets packetIn step takePart takeMessage
-  two-keys = refl
+    abbrev s : State
+    s = state (st .rec) (st .cells) (c .output)
 
-  fair-second : Fair′ w₃ (second b)
-  unfolding elementsAfter summary judged readMessage
-  fair-second total number start e o =
-      let (k, t, m, s) = same-part e in record { counted = sym t; brought = rw (← m, ← s); fewOthers = λ ne. omega (arith, two-keys) }
+    formed-here : Formed n Command xs
+    formed-here = subst (λ (x : Kind). Formed n x xs) (w .kind) (w .sound .formed)
 
-  comes : outcome slotCount (run slotCount (fresh slotCount Command (cells b)) (first b ∷ other b 2 ∷ other b 3 ∷ [])) (second b) .answer ≡ packet 16
-  unfolding sameOctets placed joined elementsAfter summary judged readMessage keyFormed lengthFits allBelow anyBelow countBelow find aged closed toFront freed allZero usedFormed slotFormed keysDiffer ranked slotsFormed cellPart joinedOctets packetIn step takePart takeMessage
-  comes = refl
+    -- the slot that comes to the front was free, with all before it used; or it was the least recent, with all used
+    data Goes (i : ℕ) : Bool → Type 0 where
+      to-free : slotAt xs i .rank ≡ 0 → ((j : ℕ) → j < i → 0 < slotAt xs j .rank) → Goes i false
+      to-last : slotAt xs i .rank ≡ n → ((j : ℕ) → j < n → 0 < slotAt xs j .rank) → Goes i true
+
+    data Came : After → Type 0 where
+      came : (i : ℕ) (y : Slot) (d : Bool) (cells : List ℕ) → i < n → y .key ≡ X → Goes i d
+          → Came (after (Taking.kept i d) (withSlots (st .rec) (toFront xs i y)) cells (c .output))
+
+    by-case : (z : Step) → Case n s X total number (drop start (octetsOf (c .input))) z → Came (acted n s X total number (drop start (octetsOf (c .input))) z)
+    by-case z (other-total i a t) = absurd (lacks i (a .inside) (a .used) (a .key))
+    by-case z (other-octets i a t h e) = absurd (lacks i (a .inside) (a .used) (a .key))
+    by-case z (again i a t h e) = absurd (lacks i (a .inside) (a .used) (a .key))
+    by-case z (last i a t h e) = absurd (lacks i (a .inside) (a .used) (a .key))
+    by-case z (more i a t h e) = absurd (lacks i (a .inside) (a .used) (a .key))
+    by-case z (opens i none-held l e lower) = came i (withPart (opened X total) number (length (drop start (octetsOf (c .input))))) false _ l refl (to-free e lower)
+    by-case z (displaces i none-held l e all) = came i (withPart (opened X total) number (length (drop start (octetsOf (c .input))))) true _ l refl (to-last e all)
+
+    it-came : Came (outcome n st c)
+    unfolding takePart
+    it-came =
+        subst Came (sym (taking n s (w .sound) (p .output) (c .input) ∙ ap (λ (x : Kind). taken n s (isPage (c .input)) (octetsOf (c .input)) (read x (c .input))) (w .kind) ∙ rw reads))
+        (by-case (step n s X total number (drop start (octetsOf (c .input)))) (case-of n s X total number (drop start (octetsOf (c .input))) (w .sound .formed)))
+
+    -- one key more
+    module _ (m : ℕ) (f : Crowd m st) (follows : X .sender ≡ suc m) (i : ℕ) (y : Slot) (inside : i < n) (is : y .key ≡ X) where
+      here : slotAt (toFront xs i y) i ≡ atRank 1 y
+      here = front-here xs i y (omega (arith, array-holds n Command xs formed-here))
+
+      module _ (j : ℕ) (l : j < n) (ne : j ≡ i → ⊥) where
+        there : slotAt (toFront xs i y) j ≡ agedSlot (slotAt xs i .rank) (slotAt xs j)
+        there = front-there xs i y j ne
+
+        rank-there : slotAt (toFront xs i y) j .rank ≡ aged (slotAt xs i .rank) (slotAt xs j .rank)
+        rank-there = ap (λ (x : Slot). x .rank) there
+
+        was-used : 0 < slotAt (toFront xs i y) j .rank → 0 < slotAt xs j .rank
+        was-used u = go (aged? (slotAt xs i .rank) (slotAt xs j .rank))
+          where
+            go : Aged (slotAt xs i .rank) (slotAt xs j .rank) → 0 < slotAt xs j .rank
+            go (free z e) = absurd (omega (arith, rank-there))
+            go (moves v z k e) = v
+            go (yields v z e) = v
+            go (stays v z k e) = v
+
+        still-used : 0 < slotAt xs j .rank → 0 < slotAt (toFront xs i y) j .rank
+        still-used u = go (aged? (slotAt xs i .rank) (slotAt xs j .rank))
+          where
+            go : Aged (slotAt xs i .rank) (slotAt xs j .rank) → 0 < slotAt (toFront xs i y) j .rank
+            go (free z e) = absurd (omega arith)
+            go (moves v z k e) = omega (arith, rank-there)
+            go (yields v z e) = omega (arith, rank-there)
+            go (stays v z k e) = omega (arith, rank-there)
+
+        -- a used slot is one rank further back
+        further : {d : Bool} → Goes i d → 0 < slotAt xs j .rank → slotAt (toFront xs i y) j .rank ≡ suc (slotAt xs j .rank)
+        further g u = go g (aged? (slotAt xs i .rank) (slotAt xs j .rank))
+          where
+            go : {d : Bool} → Goes i d → Aged (slotAt xs i .rank) (slotAt xs j .rank) → slotAt (toFront xs i y) j .rank ≡ suc (slotAt xs j .rank)
+            go g (free z e) = absurd (omega arith)
+            go g (moves v z k e) = rank-there ∙ e
+            go g (yields v z e) = rank-there ∙ e
+            go (to-free e lower) (stays v z k h) = absurd (omega arith)
+            go (to-last e all) (stays v z k h) =
+                let most = rank-bound n (λ j. slotAt xs j .rank) (formed-here .ranks) j l in
+                let few = count-at-most n (hasRank (λ j. slotAt xs j .rank)) in
+                absurd (ne (ranks-differ n (λ j. slotAt xs j .rank) (formed-here .ranks) j i l inside (omega arith) (omega arith)))
+
+      more-behind : {d : Bool} → Goes i d → (j : ℕ) → j < n → Same j i → 0 < slotAt (toFront xs i y) j .rank → slotAt (toFront xs i y) j .key ≡ key
+          → suc m ≤ slotAt (toFront xs i y) j .rank
+      more-behind g j l (same e q) u k =
+          let first-key : X ≡ key = sym (ap (λ (o : ℕ). slotAt (toFront xs i y) o .key) q ∙ ap (λ (x : Slot). x .key) here ∙ is) ∙ k in
+          omega (arith, follows, ap (λ (z : Key). z .sender) first-key)
+      more-behind g j l (other e ne) u k =
+          omega (arith, further j l ne g (was-used j l ne u), f .behind j l (was-used j l ne u) (sym (ap (λ (x : Slot). x .key) (there j l ne)) ∙ k))
+
+      more-low : (j : ℕ) → j < n → Same j i → 0 < slotAt (toFront xs i y) j .rank → slotAt (toFront xs i y) j .key .sender ≤ suc m
+      more-low j l (same e q) u = omega (arith, follows, ap (λ (z : Key). z .sender) (ap (λ (o : ℕ). slotAt (toFront xs i y) o .key) q ∙ ap (λ (x : Slot). x .key) here ∙ is))
+      more-low j l (other e ne) u = omega (arith, f .low j l (was-used j l ne u), ap (λ (x : Slot). x .key .sender) (there j l ne))
+
+      more-filled : {d : Bool} → Goes i d → (j : ℕ) → j < n → j < suc m → Same j i → 0 < slotAt (toFront xs i y) j .rank
+      more-filled g j l h (same e q) = omega (arith, ap (λ (o : ℕ). slotAt (toFront xs i y) o .rank) q, ap (λ (x : Slot). x .rank) here)
+      more-filled (to-free z lower) j l h (other e ne) = still-used j l ne (go (ltb j m) refl)
+        where
+          go : (t : Bool) → ltb j m ≡ t → 0 < slotAt xs j .rank
+          go true t = f .filled j l (ltb-true j m t)
+          go false t =
+              let last-one : m ≤ j = ltb-false j m t in
+              lower j (before-free (ltb i j) refl)
+            where
+              before-free : (t : Bool) → ltb i j ≡ t → j < i
+              before-free true t = absurd (omega (arith, f .filled i inside (omega (arith, ltb-true i j t))))
+              before-free false t = lt-of (ltb-false i j t)
+                where
+                  lt-of : j ≤ i → j < i
+                  lt-of k = ⊎-elim (λ (q : j ≡ i). absurd (ne q)) (λ (q : j < i). q) (eq-or-lt-of-le k)
+      more-filled (to-last z all) j l h (other e ne) = still-used j l ne (all j l)
+
+    key-more : (m : ℕ) → Crowd m st → X .sender ≡ suc m → Crowd (suc m) (left (outcome n st c))
+    key-more m f follows = go (outcome n st c) it-came (kept-proper n good Command (admits Command) st w c p)
+      where
+        go : (a : After) → Came a → Kept n Command (left a) → Crowd (suc m) (left a)
+        go a (came i y d cs inside is g) kept = record {
+          kept = kept;
+          behind = λ j l u k. more-behind m f follows i y inside is g j l (same? j i) u k;
+          low = λ j l u. more-low m f follows i y inside is j l (same? j i) u;
+          filled = λ j l h. more-filled m f follows i y inside is g j l h (same? j i);
+        }
+
+  one-more : (m : ℕ) (st : Store) → Crowd m st → (c : Call) → Proper c → (X : Key) (total number start : ℕ)
+      → read Command (c .input) ≡ reading.gives (part X total number start) → X .sender ≡ suc m → Crowd (suc m) (left (outcome n st c))
+  one-more m st f c p X total number start reads follows =
+      key-more st (f .kept) c p X total number start reads (λ j l u e. omega (arith, follows, f .low j l u, ap (λ (z : Key). z .sender) e)) m f follows
 
   proper : (sender : ℕ) (ud : List ℕ) → allBelow (length ud) (λ i. ltb (getD ud i 0) 256) ≡ true → Proper (call b sender ud)
   proper sender ud e = record { output = length-replicate mostOctets b; octets = octets-of ud e }
 
-  all-proper : All Proper (two b)
+  proper-other : (sender : ℕ) → Proper (reached.other b sender)
   unfolding allBelow
-  all-proper = (proper 1 _ refl, (proper 2 _ refl, (proper 3 _ refl, (proper 1 _ refl, tt))))
+  proper-other sender = proper sender _ refl
 
-  pub met : Met b
-  met = record {
-    start = record {
-      formed = refl;
-      cut = messages refl refl;
-      two = omega arith;
-      size = length-replicate (cellsSize slotCount) b;
-      before = each Proper [] tt;
-      proper = each Proper (two b) all-proper;
-      lacks = λ j l u e. fresh-free slotCount j l u;
-      fair = each-with slotCount Command key 2 (Fair slotCount Command key M halves) (two b) w₀
-          (fair-first, (fair-other w₁ 2 (λ e. omega arith), (fair-other w₂ 3 (λ e. omega arith), (fair-second, tt))));
-    };
-    comes = comes;
+  proper-first : Proper (first b)
+  unfolding allBelow
+  proper-first = proper 1 _ refl
+
+  proper-second : Proper (second b)
+  unfolding allBelow
+  proper-second = proper 1 _ refl
+
+  reads-first : read Command (first b .input) ≡ reading.gives (part key 2 1 8)
+  unfolding elementsAfter summary judged readMessage
+  reads-first = refl
+
+  reads-second : read Command (second b .input) ≡ reading.gives (part key 2 2 6)
+  unfolding elementsAfter summary judged readMessage
+  reads-second = refl
+
+  reads-other : (sender : ℕ) → read Command (reached.other b sender .input) ≡ reading.gives (part (keyOf sender) 2 2 6)
+  unfolding elementsAfter summary judged readMessage
+  reads-other sender = refl
+
+  crowd-start : Crowd 0 (fresh n Command (cells n b))
+  crowd-start = record {
+    kept = kept-fresh n good Command (admits Command) (cells n b) (length-replicate (cellsSize n) b) [] (each Proper [] tt);
+    behind = λ j l u k. omega arith;
+    low = λ j l u. absurd (fresh-free n Command good j l u);
+    filled = λ j l h. absurd (omega arith);
   }
 
-  pub missed : Missed b
-  unfolding sameOctets placed joined elementsAfter summary judged readMessage keyFormed lengthFits allBelow anyBelow countBelow find aged closed toFront freed allZero usedFormed slotFormed keysDiffer ranked slotsFormed cellPart joinedOctets packetIn step takePart takeMessage
-  missed = record { kept-anew = refl }
+  crowd-others : (m k : ℕ) (st : Store) → Crowd k st → Crowd (m + k) (run n st (others b (suc k) m))
+  crowd-others zero k st f = let e : k ≡ 0 + k = omega arith in subst (λ (o : ℕ). Crowd o st) e f
+  crowd-others (suc m) k st f =
+      let e : m + suc k ≡ suc m + k = omega arith in
+      subst (λ (o : ℕ). Crowd o (run n st (others b (suc k) (suc m)))) e
+      (crowd-others m (suc k) (left (outcome n st (reached.other b (suc k)))) (one-more k st f (reached.other b (suc k)) (proper-other (suc k)) (keyOf (suc k)) 2 2 6 (reads-other (suc k)) refl))
+
+  after-crowd : (m : ℕ) → Crowd (m + 1) (run n (fresh n Command (cells n b)) (crowd b m))
+  after-crowd m =
+      crowd-others m 1 (left (outcome n (fresh n Command (cells n b)) (first b)))
+      (one-more 0 (fresh n Command (cells n b)) crowd-start (first b) proper-first key 2 1 8 reads-first refl)
+
+  -- with n + 1 keys the first has no rank
+  gone : (st : Store) → Crowd (n + 1) st → Lacks n (st .rec .slots) key
+  gone st f j l u e =
+      omega (
+        arith,
+        f .behind j l u e,
+        rank-bound n (ranks st) (f .kept .sound .formed .ranks) j l,
+        count-at-most n (hasRank (ranks st)),
+      )
+
+  pub missed : Missed n b
+  missed = go (outcome n st (second b)) (it-came st (f .kept) (second b) proper-second key 2 2 6 reads-second (gone st f)) refl
+    where
+      st : Store
+      st = run n (fresh n Command (cells n b)) (crowd b n)
+
+      f : Crowd (n + 1) (run n (fresh n Command (cells n b)) (crowd b n))
+      f = after-crowd n
+
+      go : (a : After) → Came (run n (fresh n Command (cells n b)) (crowd b n)) (f .kept) (second b) proper-second key 2 2 6 reads-second (gone (run n (fresh n Command (cells n b)) (crowd b n)) f) a
+          → outcome n (run n (fresh n Command (cells n b)) (crowd b n)) (second b) ≡ a → Missed n b
+      go a (came i y d cs inside is (to-free z lower)) e = absurd (omega (arith, f .filled i inside (omega arith)))
+      go a (came i y d cs inside is (to-last z all)) e = record { lost = gone (run n (fresh n Command (cells n b)) (crowd b n)) f; slot = i; kept-anew = ap (λ (x : After). x .answer) e }
+
+  -- ---- n − 1 other keys
+  abbrev seen : History → Call → History
+  seen q c = follow n Command key q (c ∷ [])
+
+  -- a call with another key leaves what has arrived, and is counted once at most
+  record Waits (m : ℕ) (q : History) : Type 0 where
+    arrived : q .arrived ≡ 1 ∷ []
+    few : length (q .othersSince) ≤ m
+
+  waits-more : (m sender : ℕ) (q : History) → 2 ≤ sender → Waits m q → Waits (suc m) (seen q (reached.other b sender))
+  waits-more m sender q l w = rw (reads-other sender, ne-eqb sender 1 (λ e. omega arith)) (record { arrived = w .arrived; few = go (counts (outcome n (q .store) (reached.other b sender))) })
+    where
+      go : (t : Bool) → length (cond t (addKey (keyOf sender) (q .othersSince)) (q .othersSince)) ≤ suc m
+      go true = let more-keys : length (addKey (keyOf sender) (q .othersSince)) ≤ suc (length (q .othersSince)) = add-most (keyOf sender) (q .othersSince) in omega (arith, w .few)
+      go false = omega (arith, w .few)
+
+  abbrev Fair′ : History → Call → Type 0
+  Fair′ = Here n Command key 2 (Fair n Command key M halves)
+
+  fair-first : (q : History) → q .arrived ≡ [] → Fair′ q (first b)
+  fair-first q z total number start e o =
+      let (k, t, m, s) = same-part (sym reads-first ∙ e) in record { counted = sym t; brought = rw (← m, ← s); fewOthers = λ ne. absurd (ne z) }
+
+  fair-other : (q : History) (sender : ℕ) → 2 ≤ sender → Fair′ q (reached.other b sender)
+  fair-other q sender l total number start e o = absurd (omega (arith, ap (λ (k : Key). k .sender) (same-part (sym (reads-other sender) ∙ e) .0)))
+
+  fair-second : (q : History) → length (q .othersSince) < n → Fair′ q (second b)
+  fair-second q few total number start e o =
+      let (k, t, m, s) = same-part (sym reads-second ∙ e) in record { counted = sym t; brought = rw (← m, ← s); fewOthers = λ ne. few }
+
+  -- the others and the second part, where k others were before
+  fair-rest : (m sender k : ℕ) (q : History) → 2 ≤ sender → Waits k q → k + m < n → Along n Command key 2 (Fair n Command key M halves) q (others b sender m ++ second b ∷ [])
+  fair-rest zero sender k q l w few = (fair-second q (omega (arith, w .few)), tt)
+  fair-rest (suc m) sender k q l w few = (fair-other q sender l, fair-rest m (suc sender) (suc k) (seen q (reached.other b sender)) (omega arith) (waits-more k sender q l w) (omega arith))
+
+  waits-all : (m sender k : ℕ) (q : History) → 2 ≤ sender → Waits k q → Waits (m + k) (follow n Command key q (others b sender m))
+  waits-all zero sender k q l w = let e : k ≡ 0 + k = omega arith in subst (λ (o : ℕ). Waits o q) e w
+  waits-all (suc m) sender k q l w =
+      let e : m + suc k ≡ suc m + k = omega arith in
+      subst (λ (o : ℕ). Waits o (follow n Command key q (others b sender (suc m)))) e
+      (waits-all m (suc sender) (suc k) (seen q (reached.other b sender)) (omega arith) (waits-more k sender q l w))
+
+  abbrev w₀ : History
+  w₀ = begin n Command (cells n b) []
+
+  waits-first : Waits 0 (seen w₀ (first b))
+  waits-first = rw reads-first (record { arrived = refl; few = omega arith })
+
+  proper-rest : (m sender : ℕ) → All Proper (others b sender m ++ second b ∷ [])
+  proper-rest zero sender = (proper-second, tt)
+  proper-rest (suc m) sender = (proper-other sender, proper-rest m (suc sender))
+
+  -- what is seen has the store that the calls leave
+  store-seen : (q : History) (c : Call) → seen q c .store ≡ left (outcome n (q .store) c)
+  store-seen q c = by-reading (read Command (c .input))
+    where
+      by-key : (t : Bool) (x y : History) → x .store ≡ left (outcome n (q .store) c) → y .store ≡ left (outcome n (q .store) c) → cond t x y .store ≡ left (outcome n (q .store) c)
+      by-key true x y e f = e
+      by-key false x y e f = f
+
+      by-reading : (r : reading.Outcome Brought) → historyAfter n Command key q (outcome n (q .store) c) r .store ≡ left (outcome n (q .store) c)
+      by-reading (reading.refused m) = refl
+      by-reading (reading.gives (single start)) = refl
+      by-reading (reading.gives (part X total number start)) = by-key (sameKey X key) _ _ refl refl
+
+  store-run : (calls : List Call) (q : History) → follow n Command key q calls .store ≡ run n (q .store) calls
+  store-run [] q = refl
+  store-run (c ∷ cs) q = store-run cs (seen q c) ∙ ap (λ (st : Store). run n st cs) (store-seen q c)
+
+  starts : window.Start n Command key M halves (cells n b) [] (crowd b (n - 1) ++ second b ∷ [])
+  starts = record {
+    formed = refl;
+    cut = messages refl refl;
+    two = omega arith;
+    size = length-replicate (cellsSize n) b;
+    before = each Proper [] tt;
+    proper = each Proper (crowd b (n - 1) ++ second b ∷ []) (proper-first, proper-rest (n - 1) 2);
+    lacks = λ j l u e. fresh-free n Command good j l u;
+    fair = each-with n Command key 2 (Fair n Command key M halves) (crowd b (n - 1) ++ second b ∷ []) w₀
+        (fair-first w₀ refl, fair-rest (n - 1) 2 0 (seen w₀ (first b)) (omega arith) waits-first (omega (arith, good .some)));
+  }
+
+  pub met : Met n b
+  unfolding allBelow
+  met = record { start = starts; comes = ap (λ (st : Store). outcome n st (second b) .answer) (sym (store-run (crowd b (n - 1)) w₀)) ∙ handed served }
+    where
+      q : History
+      q = follow n Command key w₀ (crowd b (n - 1))
+
+      waits : Waits (n - 1 + 0) (follow n Command key w₀ (crowd b (n - 1)))
+      waits = waits-all (n - 1) 2 0 (seen w₀ (first b)) (omega arith) waits-first
+
+      served : window.Served n Command key M halves (follow n Command key w₀ (crowd b (n - 1))) (second b) 2 2 6
+      served = wake-window n good Command key M halves (cells n b) [] (crowd b (n - 1) ++ second b ∷ []) starts (crowd b (n - 1)) (second b) [] refl 2 2 6 reads-second (rw (waits .arrived))
+
+      handed : window.Served n Command key M halves (follow n Command key w₀ (crowd b (n - 1))) (second b) 2 2 6
+          → outcome n (follow n Command key w₀ (crowd b (n - 1)) .store) (second b) .answer ≡ packet 16
+      handed (window.again r old bears e) = absurd (clash false (rw (waits .arrived) at old) refl)
+      handed (window.waits r i d new open′ e place bears) = absurd (clash true refl (rw (waits .arrived) at open′))
+      handed (window.wakes r new all lacks e) = ap (λ (x : After). x .answer) e
 
 -- ---- the longest packets
 brings-both : {t : ℕ} {written : ℕ → Input} {o p : List ℕ} {u v : List Call} → Brings t written o u → Brings t written p v → Brings t written (o ++ p) (u ++ v)
-brings-both nothing-more more = more
-brings-both (next m low high c is size rest) more = next m low high c is size (brings-both rest more)
+brings-both nothing-more behind = behind
+brings-both (next m low high c is size rest) behind = next m low high c is size (brings-both rest behind)
 
 in-order : (b t : ℕ) (written : ℕ → Input) (m : ℕ) → m ≤ t → Brings t written (listed (λ i. i) m) (inOrder b m written)
 in-order b t written zero l = nothing-more
 in-order b t written (suc m) l =
     brings-both (in-order b t written m (omega arith)) (next (suc m) (omega arith) l _ refl (length-replicate mostOctets b) nothing-more)
 
-pub longest-reached : (b : ℕ) → Longest b
+pub longest-reached : (n : ℕ) → Slots n → (b : ℕ) → Longest n b
 unfolding allBelow
-longest-reached b = record {
+longest-reached n good b = record {
   sixteen = refl;
-  in-sixteen = messages-delivered slotCount (omega arith) Command 1 8 0x2A longest long-octets refl refl (omega arith) (cells b) [] (length-replicate (cellsSize slotCount) b) (each Proper [] tt)
-      .in-parts (λ e. omega arith) (λ j l u e. fresh-free slotCount j l u) (listed (λ i. i) 16) (inOrder b 16 asMessage) (in-order b 16 asMessage 16 (omega arith)) refl;
+  in-sixteen = messages-delivered n good Command 1 8 0x2A longest long-octets refl refl (omega arith) (cells n b) [] (length-replicate (cellsSize n) b) (each Proper [] tt)
+      .in-parts (λ e. omega arith) (λ j l u e. fresh-free n Command good j l u) (listed (λ i. i) 16) (inOrder b 16 asMessage) (in-order b 16 asMessage 16 (omega arith)) refl;
   fifteen = refl;
-  in-fifteen = pages-delivered slotCount (omega arith) 0 0x1080 (λ number. 0x96) longestPaged (omega arith) (λ number. omega arith) paged-octets refl refl (omega arith) (cells b) [] (length-replicate (cellsSize slotCount) b) (each Proper [] tt)
-      .in-parts (λ e. omega arith) (λ j l u e. fresh-free slotCount j l u) (listed (λ i. i) 15) (inOrder b 15 asPage) (in-order b 15 asPage 15 (omega arith)) refl;
+  in-fifteen = pages-delivered n good 0 0x1080 (λ number. 0x96) longestPaged (omega arith) (λ number. omega arith) paged-octets refl refl (omega arith) (cells n b) [] (length-replicate (cellsSize n) b) (each Proper [] tt)
+      .in-parts (λ e. omega arith) (λ j l u e. fresh-free n Command good j l u) (listed (λ i. i) 15) (inOrder b 15 asPage) (in-order b 15 asPage 15 (omega arith)) refl;
 }
   where
     long-octets : Octets longest

@@ -1,5 +1,5 @@
 -- A refused call leaves everything as it was, but for the one exception: by cases of what a call comes to.
-use Prim.Native.Nat.{ℕ, _+_, _<_}
+use Prim.Native.Nat.{ℕ, _+_}
 use mathlib.Core.Path.{_≡_, refl, sym, _∙_, subst}
 use mathlib.Core.Bool.{Bool, true, false, not, cond, _||_, or-true}
 use mathlib.Core.List.{List, []}
@@ -7,8 +7,9 @@ use mathlib.Core.Option.{Option, none, some}
 use native.Mathlib.Omega.{arith}
 use lib.ListN.{length, drop}
 use lib.Dec.{eqb, ltb}
-use borrow.Author.Tests.{not-false, ne-eqb, lt-leb}
-use Rattle.octets.specs.Tests.{neither}
+use borrow.Author.Tests.{not-false, eqb-true, eq-eqb, ne-eqb, lt-leb}
+use Rattle.octets.specs.Tests.{neither, both}
+use Rattle.types.specs.declared.Kind.{Kind}
 use Rattle.types.specs.Refusals as outcome
 use Rattle.types.specs.Refusals.{refuse_when_otherwise_}
 use Rattle.packet.specs.Packets.{wellFormed, mostOctets, mostChecksum, into, building, built, checksumOctets, checksummed, parsing, againstCheck, readable, shown, securedOf, checkOf, opaqueOf, fieldsOf, measured, shownData, shownCheck, shownOpaque}
@@ -18,19 +19,20 @@ use Rattle.arrival.specs.Message.{mostUserData}
 use Rattle.arrival.specs.Page.{pageOctets}
 use Rattle.arrival.specs.Keys.{ofPages}
 use Rattle.joined.specs.Fronts.{packetIn}
-use Rattle.slots.specs.Slots.{slotAt, freed, withSlots}
-use Rattle.formed.specs.Formed.{recordFormed}
-use Rattle.formed.specs.Laws.{Formed, formed-tells}
+use Rattle.slots.specs.Slots.{isSlotNumber, slotAt, freed, withSlots, freshRecord, beside}
+use Rattle.formed.specs.Formed.{slotsFormed, recordFormed}
+use Rattle.formed.specs.Laws.{Formed, number-tells, number-told, formed-tells, fresh-formed, formed-told}
 use Rattle.series.specs.Cells.{cellsSize, joinedOctets}
-use Rattle.series.specs.Taking.{State, After, kept, heldAlready, packet, refusedBy, Step, handOut, acted, step, takePart, taken, unfit, refuse}
+use Rattle.series.specs.Taking.{State, state, After, kept, heldAlready, packet, refusedBy, Step, handOut, acted, step, takePart, taken, unfit, refuse}
 use Rattle.series.specs.CaseLaws.{Case, other-total, other-octets, again, last, more, opens, displaces, case-of}
 use Rattle.series.specs.Calls.{Input, octetsOf, read, takeInput}
 use Rattle.split.specs.Splitting as split
-use Rattle.demands.specs.Refusing.{Leaves, unaltered, dropped, TakingRefused, BuildingRefused, ChecksumRefused, WritingRefused, PageRefused, ParsingRefused, UnfitRefused}
+use Rattle.demands.specs.Refusing.{Leaves, unaltered, dropped, TakingRefused, BuildingRefused, ChecksumRefused, WritingRefused, PageRefused, ParsingRefused, UnfitRefused, MakingRefused}
+use Rattle.demands.specs.Runs.{Slots}
 use Rattle.demands.proofs.Calls.{isPage, taking-any}
 
 -- ---- taking
-module _ (n : ℕ) (pos : 0 < n) (s : State) (i : Input) (number : ℕ) where
+module _ (n : ℕ) (s : State) (i : Input) (number : ℕ) where
   -- an outcome that is refused leaves what it may
   abbrev Left : After → Type 0
   Left a = a .answer ≡ refusedBy number → Leaves n s i number (a .state)
@@ -76,7 +78,7 @@ module _ (n : ℕ) (pos : 0 < n) (s : State) (i : Input) (number : ℕ) where
   read-left w (outcome.refused m) r e = not-part r (λ key total which start f. let z : _≡_ {A = ℕ} 0 1 = cc in omega arith)
   read-left w (outcome.gives (single start)) r e = single-left start r (packetIn (s .rec .kind) (isPage i) 1 (drop start (octetsOf i))) e
   read-left w (outcome.gives (part key total which start)) r e =
-      part-left key total which start r (step n s key total which (drop start (octetsOf i))) (case-of n s key total which (drop start (octetsOf i)) pos w) e
+      part-left key total which start r (step n s key total which (drop start (octetsOf i))) (case-of n s key total which (drop start (octetsOf i)) w) e
 
   call-left : Left (takeInput n s i)
   call-left = subst Left (sym (taking-any n s i)) (go (unfit n s) refl)
@@ -85,10 +87,10 @@ module _ (n : ℕ) (pos : 0 < n) (s : State) (i : Input) (number : ℕ) where
       go true u e = by-number (λ z. omega arith) e
       go false u e =
           let f = neither (not (eqb (length (s .cells)) (cellsSize n)) || not (eqb (length (s .output)) mostOctets)) (not (recordFormed n (s .rec))) u .1 in
-          read-left (formed-tells n (s .rec .kind) (s .rec .slots) (not-false (recordFormed n (s .rec)) f)) (read (s .rec .kind) i) refl e
+          read-left (formed-tells n (s .rec .kind) (s .rec .slots) (both (eqb (s .rec .count) n) (slotsFormed n (s .rec .kind) (s .rec .slots)) (not-false (recordFormed n (s .rec)) f) .1)) (read (s .rec .kind) i) refl e
 
-pub taking-refused : (n : ℕ) → 0 < n → TakingRefused n
-taking-refused n pos s i number = call-left n pos s i number
+pub taking-refused : (n : ℕ) → TakingRefused n
+taking-refused n s i number = call-left n s i number
 
 -- ---- writing to a lent buffer
 written-left : (o : outcome.Outcome (List ℕ)) (buffer : List ℕ) (number : ℕ) → outcome.writes o buffer .0 ≡ outcome.refused number → outcome.writes o buffer .1 ≡ buffer
@@ -157,3 +159,24 @@ unfit-refused n = record {
   writing-a-page = λ serial identifier dcs p which buffer ne. rw (ne-eqb (length buffer) pageOctets ne);
   put = λ o at p l. (lt-leb (at + length p) (length o) l, rw (lt-leb (at + length p) (length o) l));
 }
+
+-- ---- making a record
+none-formed : (n : ℕ) (k : Kind) (b : Bool) → recordFormed n (freshRecord 0 k) ≡ b → b ≡ false
+none-formed n k false e = refl
+none-formed n k true e =
+    let (z, f) = both (eqb 0 n) (slotsFormed n k (freshRecord 0 k .slots)) e in
+    let low = formed-tells n k (freshRecord 0 k .slots) f .low in absurd (omega (arith, eqb-true 0 n z))
+
+pub making-refused : MakingRefused
+making-refused = record {
+  made = λ n k good. rw (number-told n (good .some) (good .most));
+  refused-by = λ n k other. refuses n k other (isSlotNumber n) refl;
+  accepted = λ n k good. rw (eq-eqb n n refl) (formed-told n k (freshRecord n k .slots) (fresh-formed n k (good .some) (good .most)));
+  no-call = λ k cells output i. unfit-refused 0 .taking-record (state (freshRecord 0 k) cells output) i (none-formed 0 k (recordFormed 0 (freshRecord 0 k)) refl);
+  never-formed = λ n k. none-formed n k (recordFormed n (freshRecord 0 k)) refl;
+}
+  where
+    refuses : (n : ℕ) (k : Kind) → (Slots n → ⊥) → (b : Bool) → isSlotNumber n ≡ b
+        → cond b (beside (outcome.gives tt) (freshRecord n k)) (beside (outcome.refused 25) (freshRecord 0 k)) ≡ beside (outcome.refused 25) (freshRecord 0 k)
+    refuses n k other true e = let (low, high) = number-tells n e in absurd (other (record { some = low; most = high }))
+    refuses n k other false e = refl

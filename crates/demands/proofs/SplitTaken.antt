@@ -24,7 +24,7 @@ use Rattle.split.specs.Splitting as split
 use Rattle.split.specs.Laws.{single-size, part-whole, parts-join, pages-join, page-begins, page-ends}
 use Rattle.split.specs.ReadBack.{ownFrom, read-single, single-octets, read-part, own-octets, read-single-page, read-page, content-octets}
 use Rattle.demands.specs.Lists.{concat, complete}
-use Rattle.demands.specs.Runs.{Call}
+use Rattle.demands.specs.Runs.{Slots, Call}
 use Rattle.demands.specs.Wake.{Cut, messages, pages, History, begin, follow, EachWith, Fair, Served, Start, Comes}
 use Rattle.demands.specs.SplitTaken.{listed, Sent, Sending, Arrives, keyUnder, MessagesArrive, PagesArrive}
 use Rattle.demands.proofs.Lists.{concat-last}
@@ -62,7 +62,7 @@ pub record Splits (k : Kind) (K : Key) (P : List ℕ) (t : ℕ) (octets : ℕ �
   pub alone-own : t ≡ 1 → drop alone-from (octetsOf (written 1)) ≡ octets 1
   pub paged : isPage (written 1) ≡ ofPages K
 
-module _ (n : ℕ) (pos : 0 < n) (k : Kind) (K : Key) (P : List ℕ) (t : ℕ) (octets : ℕ → List ℕ) (written : ℕ → Input)
+module _ (n : ℕ) (pos : Slots n) (k : Kind) (K : Key) (P : List ℕ) (t : ℕ) (octets : ℕ → List ℕ) (written : ℕ → Input)
     (splits : Splits k K P t octets written) (two : 2 ≤ t) where
   sent-fair : (w : History) (c : Call) (total number start : ℕ) → read k (c .input) ≡ reading.gives (part K total number start) → Sent n t written w c total number start
       → Fair n k K P (listed octets t) w c total number start
@@ -128,7 +128,7 @@ messages-split k sender width reference P fits most = record {
   paged = sym (no-page width reference fits);
 }
 
-pub messages-arrive : (n : ℕ) → 0 < n → MessagesArrive n
+pub messages-arrive : (n : ℕ) → Slots n → MessagesArrive n
 messages-arrive n pos k sender width reference P fits most two =
     arrives n pos k (keyUnder sender width reference) P (split.parts width (length P)) (split.partOctets width P)
     (λ number. message sender (split.userData k width reference P number)) (messages-split k sender width reference P fits most) two
@@ -154,7 +154,7 @@ pages-split serial identifier dcs P inside most = record {
         pages refl (replicate (pageContent * split.pages (length P) - length P) 0x00) (concat-listed (split.contentOf P) (split.pages (length P)) ∙ pages-join P)
         (rw (length-listed (split.contentOf P) (split.pages (length P)), le-leb (pageContent * (split.pages (length P) - 1) + 1) (length P) (page-begins (length P) some), le-leb (length P) (pageContent * split.pages (length P)) (page-ends (length P))))
 
-pub pages-arrive : (n : ℕ) → 0 < n → PagesArrive n
+pub pages-arrive : (n : ℕ) → Slots n → PagesArrive n
 pages-arrive n pos serial identifier dcs P inside most two =
     arrives n pos Command (pageKey serial identifier) P (split.pages (length P)) (split.contentOf P)
     (λ number. page (split.page serial identifier (dcs number) P number)) (pages-split serial identifier dcs P inside most) two

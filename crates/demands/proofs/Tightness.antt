@@ -1,16 +1,17 @@
 -- Each promise is tight: the outcome can be read back from what is told of it.
 use Prim.Native.Nat.{ℕ, _+_, _-_}
 use mathlib.Core.Path.{_≡_, refl, sym, ap, _∙_}
-use mathlib.Core.Bool.{Bool}
+use mathlib.Core.Bool.{Bool, cond}
 use mathlib.Core.List.{List, [], _∷_}
 use mathlib.Core.Option.{Option, none, some}
 use lib.ListN.{getD}
+use lib.Dec.{eqb}
 use lib.ListN as list
 use Rattle.octets.specs.Octets as octets
 use Rattle.octets.specs.Given as given
 use Rattle.types.specs.declared.Kind.the-variants.{Command, Response}
 use Rattle.types.specs.declared.Refusal.{Refusal}
-use Rattle.types.specs.declared.Refusal.the-variants.{BufferOrRecord, InputLength, HeaderOverrun, HeaderElement, WrongIdentifier, TooManyParts, OtherTotal, OtherOctets, MalformedPacket, CipherMismatch, PacketHeader, PacketTooLong, ReferenceWidth, PartNumber, CheckMismatch}
+use Rattle.types.specs.declared.Refusal.the-variants.{BufferOrRecord, InputLength, HeaderOverrun, HeaderElement, WrongIdentifier, TooManyParts, OtherTotal, OtherOctets, MalformedPacket, CipherMismatch, PacketHeader, PacketTooLong, ReferenceWidth, PartNumber, CheckMismatch, SlotNumber}
 use Rattle.types.specs.declared.Tar.{Tar}
 use Rattle.types.specs.declared.Cntr.{Cntr}
 use Rattle.types.specs.declared.Clear.{Clear}
@@ -39,16 +40,19 @@ use Rattle.types.specs.declared.Arrival.the-variants as arrival
 use Rattle.arrival.specs.Arrivals.{Brought, single, part, toldArrival}
 use Rattle.joined.specs.declared.Size as joined
 use Rattle.joined.specs.Fronts.{toldSize}
-use Rattle.slots.specs.Slots.{slotCount, freshRecord}
+use Rattle.slots.specs.Slots.{defaultSlots, freshRecord, Begun, toldMaking}
 use Rattle.formed.specs.Formed.{recordFormed}
 use Rattle.types.specs.declared.Answer.{Answer}
 use Rattle.types.specs.declared.Answer.the-variants as answer
+use Rattle.types.specs.declared.Making.{Making}
+use Rattle.types.specs.declared.Making.the-variants as making
+use Rattle.types.specs.declared.Made.{Made}
 use Rattle.types.specs.declared.Taken.{Taken}
 use Rattle.series.specs.Taking as taking
 use Rattle.types.specs.declared.WrittenPart.{WrittenPart}
 use Rattle.types.specs.declared.WrittenPart.the-variants as writtenPart
 use Rattle.split.specs.Splitting as split
-use Rattle.demands.specs.Tightness.{Tight, toldBuilt, toldPart, toldHanded, toldTaken, Tellings, PlainPromises, One, Promises}
+use Rattle.demands.specs.Tightness.{Tight, toldBuilt, toldMade, toldPart, toldHanded, toldTaken, Tellings, PlainPromises, One, Promises}
 
 -- what can be read back is told of one outcome only
 tight : {O P : Type 0} (told : O → P) (back : P → O) → ((r : O) → back (told r) ≡ r) → Tight told
@@ -57,9 +61,10 @@ tight told back recovers rule r₁ r₂ e₁ e₂ = sym (recovers r₁) ∙ ap b
 -- ---- refusals
 refusalOf : ℕ → Refusal
 refusalOf n =
-    getD
+    cond (eqb n 25) SlotNumber
+    (getD
     (BufferOrRecord ∷ InputLength ∷ HeaderOverrun ∷ HeaderElement ∷ WrongIdentifier ∷ TooManyParts ∷ OtherTotal ∷ OtherOctets ∷ MalformedPacket ∷ CipherMismatch ∷ PacketHeader ∷ PacketTooLong ∷ ReferenceWidth ∷ PartNumber ∷ CheckMismatch ∷ [])
-    (n - 1) BufferOrRecord
+    (n - 1) BufferOrRecord)
 
 refusal-back : (r : Refusal) → refusalOf (refusalNumber r) ≡ r
 unfolding refusalOf
@@ -78,6 +83,7 @@ refusal-back PacketTooLong = refl
 refusal-back ReferenceWidth = refl
 refusal-back PartNumber = refl
 refusal-back CheckMismatch = refl
+refusal-back SlotNumber = refl
 
 -- ---- parsed packets
 tarAt : List ℕ → ℕ → Tar
@@ -169,6 +175,22 @@ answer-back (answer.HeldAlready s) = refl
 answer-back (answer.Packet m) = refl
 answer-back (answer.Refused r) = ap answer.Refused (refusal-back r)
 
+makingOf : Outcome Unit → Making
+makingOf (refused n) = making.Refused (refusalOf n)
+makingOf (gives x) = making.Fresh
+
+making-back : (r : Making) → makingOf (toldMaking r) ≡ r
+unfolding makingOf
+making-back making.Fresh = refl
+making-back (making.Refused r) = ap making.Refused (refusal-back r)
+
+madeOf : Begun → Made
+madeOf (answer, r) = record { answer = makingOf answer; «record» = r }
+
+made-back : (r : Made) → madeOf (toldMade r) ≡ r
+unfolding madeOf
+made-back r = ap (λ (x : Making). record { answer = x; «record» = r .«record» }) (making-back (r .answer))
+
 takenOf : taking.After → Taken × (List ℕ × List ℕ)
 takenOf a = (record { answer = answerOf (a .answer); «record» = a .state .rec }, (a .state .cells, a .state .output))
 
@@ -219,6 +241,7 @@ tellings = record {
   parse-response = tight toldResponse responseOf response-back;
   build-and-checksum = tight toldBuilt writtenOf written-back;
   read-message-and-page = tight toldArrival arrivalOf arrival-back;
+  fresh-record-with = tight toldMade madeOf made-back;
   take-message-and-page = tight toldTaken takenOf taken-back;
   write-message-and-page = tight toldPart partOf part-back;
   judge = tight toldJudged judgedOf judged-back;
@@ -264,8 +287,9 @@ promises = record {
   read-message = λ k sender ud. tellings .read-message-and-page _;
   read-page = λ k page. tellings .read-message-and-page _;
   own-octets = λ o start. plain (list.drop start o);
-  fresh-record = λ k. plain (freshRecord slotCount k);
-  record-formed = λ x. plain (recordFormed slotCount x);
+  fresh-record = λ k. plain (freshRecord defaultSlots k);
+  fresh-record-with = λ k n. tellings .fresh-record-with _;
+  record-formed = λ x. plain (recordFormed (x .count) x);
   take-message = λ x sender ud cells out. tellings .take-message-and-page _;
   take-page = λ x page cells out. tellings .take-message-and-page _;
   write-message = λ k width reference number p out. tellings .write-message-and-page _;

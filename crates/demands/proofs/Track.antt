@@ -128,7 +128,7 @@ module _ (n : ℕ) (K : Key) (parts : List (List ℕ)) where
   first-near xs i x inside l u less = absurd (omega (arith, ap (λ (y : Slot). y .rank) (front-here xs i x inside)))
 
   -- a part that was there
-  pub track-again : (xs : List Slot) (cells : List ℕ) (i : ℕ) (got : List ℕ) (since : List Key) → length xs ≡ n → Track xs cells i got since
+  pub track-again : (xs : List Slot) (cells : List ℕ) (i : ℕ) (got : List ℕ) (since : List Key) → n ≤ length xs → Track xs cells i got since
       → Track (toFront xs i (slotAt xs i)) cells i got []
   track-again xs cells i got since size tr =
       let inside : i < length xs = omega (arith, tr .bears .inside) in
@@ -141,7 +141,7 @@ module _ (n : ℕ) (K : Key) (parts : List (List ℕ)) where
       }
 
   -- a part that is new to x: it is written, and the others stay
-  module _ (k : Kind) (xs : List Slot) (size : length xs ≡ n) (cells : List ℕ) (long : length cells ≡ cellsSize n) (i : ℕ) (inside : i < n)
+  module _ (k : Kind) (xs : List Slot) (size : n ≤ length xs) (cells : List ℕ) (long : length cells ≡ cellsSize n) (i : ℕ) (inside : i < n)
       (x : Slot) (own : x .key ≡ K) (total : x .total ≡ length parts) (lengths : length (x .lengths) ≡ mostParts) (marks : length (x .held) ≡ mostParts)
       (got : List ℕ) (held : (m : ℕ) → 1 ≤ m → m ≤ mostParts → heldAt x m ≡ elem m got)
       (octets : (m : ℕ) → 1 ≤ m → m ≤ mostParts → elem m got ≡ true → (lengthAt x m ≤ cellOctets) × (cellPart cells x i m ≡ getD parts (m - 1) []))

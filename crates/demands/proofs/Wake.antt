@@ -23,7 +23,7 @@ use Rattle.slots.specs.FrontLaws.{key-same}
 use Rattle.formed.specs.Laws.{Formed}
 use Rattle.types.specs.declared.Record.{Record}
 use Rattle.demands.specs.Lists.{elem, add, complete}
-use Rattle.demands.specs.Runs.{Call, outcome, left, Proper, Each}
+use Rattle.demands.specs.Runs.{Slots, Call, outcome, left, Proper, Each}
 use Rattle.demands.specs.Wake.{Cut, History, Start, begin, historyAfter, follow, EachWith, Fair, Served, again, waits, wakes, WakeWindow, Comes, comes, PacketComes}
 use Rattle.demands.proofs.Lists.{Alike, alike, unlike, alike?, elem-still, add-old}
 use Rattle.demands.proofs.Calls.{isPage, taking, Kept, Admits, kept-proper, kept-fresh}
@@ -42,7 +42,7 @@ admits k c = go (c .input)
 complete-more : (t m : ℕ) (got : List ℕ) → complete t got ≡ true → complete t (add m got) ≡ true
 complete-more t m got e = all-hold t (λ i. elem (i + 1) (add m got)) (λ i l. elem-still m (i + 1) got (all-at t (λ i. elem (i + 1) got) e i l))
 
-module _ (n : ℕ) (pos : 0 < n) (k : Kind) (K : Key) (P : List ℕ) (parts : List (List ℕ)) (good : wellFormed k P ≡ true) (cut : Cut K P parts) (two : 2 ≤ length parts) where
+module _ (n : ℕ) (pos : Slots n) (k : Kind) (K : Key) (P : List ℕ) (parts : List (List ℕ)) (good : wellFormed k P ≡ true) (cut : Cut K P parts) (two : 2 ≤ length parts) where
   abbrev PhaseOf : History → Type 0
   PhaseOf w = Phase n K parts (w .store .rec .slots) (w .store .cells) (w .arrived) (w .slot) (w .othersSince)
 
@@ -62,7 +62,7 @@ module _ (n : ℕ) (pos : 0 < n) (k : Kind) (K : Key) (P : List ℕ) (parts : Li
       formed-here = subst (λ (x : Kind). Formed n x (q .store .rec .slots)) (w .kind) (w .sound .formed)
 
       case-here : (X : Key) (total number start : ℕ) → Case n s X total number (drop start o) (step n s X total number (drop start o))
-      case-here X total number start = case-of n s X total number (drop start o) pos (w .sound .formed)
+      case-here X total number start = case-of n s X total number (drop start o) (w .sound .formed)
 
       -- a call with the key, while parts are missing
       own-part : (total number start : ℕ) → read k (c .input) ≡ reading.gives (part K total number start) → complete (length parts) (q .arrived) ≡ false
@@ -182,7 +182,7 @@ module _ (n : ℕ) (pos : 0 < n) (k : Kind) (K : Key) (P : List ℕ) (parts : Li
       go false e ih = later (ih e)
 
 -- ---- the theorems
-module _ (n : ℕ) (pos : 0 < n) (k : Kind) (K : Key) (P : List ℕ) (parts : List (List ℕ)) where
+module _ (n : ℕ) (pos : Slots n) (k : Kind) (K : Key) (P : List ℕ) (parts : List (List ℕ)) where
   all-served : (cells : List ℕ) (earlier calls : List Call) → Start n k K P parts cells earlier calls
       → Along n k K (length parts) (Served n k K P parts) (begin n k cells earlier) calls
   all-served cells earlier calls st =

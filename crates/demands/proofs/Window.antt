@@ -26,7 +26,7 @@ use Rattle.slots.specs.Slots.{slotAt, opened, used, atRank, heldAt, lengthAt, w
 use Rattle.formed.specs.Formed.{markAt}
 use Rattle.slots.specs.RankLaws.{hasRank, pos-taken, aged-taken, closed-taken, rank-bound, ranks-differ}
 use Rattle.slots.specs.FrontLaws.{front-here, front-there, freed-here, freed-there}
-use Rattle.formed.specs.Laws.{Formed, UsedSlot, slot-tells}
+use Rattle.formed.specs.Laws.{array-holds, Formed, UsedSlot, slot-tells}
 use Rattle.series.specs.PartLaws.{total-bounds}
 use Rattle.series.specs.Cells.{cellOctets, cellsSize, cellAt, cellPart, partOf, joinedOctets}
 use Rattle.series.specs.CellLaws.{part-by-length, cell-there}
@@ -74,11 +74,11 @@ module _ (n : ℕ) (K : Key) (parts : List (List ℕ)) where
         → Phase xs cells got i since → Phase (toFront xs j y) cells′ got i (addKey X since)
     fronted j inside y e cells′ stay apart (before z lacks) =
         before z (lacks-moved n K parts xs (toFront xs j y) j (aged (slotAt xs j .rank)) (aged-taken (slotAt xs j .rank)) (aged-mono (slotAt xs j .rank)) (front-there xs j y) lacks
-        (λ u q. ne (sym e ∙ ap (λ (x : Slot). x .key) (sym (front-here xs j y (omega (arith, w .size)))) ∙ q)))
+        (λ u q. ne (sym e ∙ ap (λ (x : Slot). x .key) (sym (front-here xs j y (omega (arith, array-holds n k xs w)))) ∙ q)))
     fronted j inside y e cells′ stay apart (during z track) =
         during z (λ few.
         let tr = track (omega (arith, length-add-key X since)) in
-        let here : slotAt (toFront xs j y) j ≡ atRank 1 y = front-here xs j y (omega (arith, w .size)) in
+        let here : slotAt (toFront xs j y) j ≡ atRank 1 y = front-here xs j y (omega (arith, array-holds n k xs w)) in
         track-moved n K parts xs (toFront xs j y) j (aged (slotAt xs j .rank)) (aged-taken (slotAt xs j .rank)) (aged-mono (slotAt xs j .rank)) (front-there xs j y)
         cells cells′ i got since (addKey X since) (apart few tr) tr (λ Y. elem-key-add X Y since)
         (λ u. rw (here, e) (elem-key-self X since))
@@ -89,14 +89,14 @@ module _ (n : ℕ) (K : Key) (parts : List (List ℕ)) where
     freed-phase : (j : ℕ) → j < n → 0 < slotAt xs j .rank → slotAt xs j .key ≡ X → Phase xs cells got i since → Phase (freed xs j) cells got i since
     freed-phase j inside u e (before z lacks) =
         before z (lacks-moved n K parts xs (freed xs j) j (closed (slotAt xs j .rank)) (λ q. closed-taken (slotAt xs j .rank) q u) (closed-mono (slotAt xs j .rank)) (freed-there xs j) lacks
-        (λ v q. omega (arith, ap (λ (x : Slot). x .rank) (freed-here xs j (omega (arith, w .size))))))
+        (λ v q. omega (arith, ap (λ (x : Slot). x .rank) (freed-here xs j (omega (arith, array-holds n k xs w))))))
     freed-phase j inside u e (during z track) =
         during z (λ few.
         let tr = track few in
         let apart : i ≡ j → ⊥ = elsewhere j (tr .bears) e in
         track-moved n K parts xs (freed xs j) j (closed (slotAt xs j .rank)) (λ q. closed-taken (slotAt xs j .rank) q u) (closed-mono (slotAt xs j .rank)) (freed-there xs j)
         cells cells i got since since apart tr (λ Y h. h)
-        (λ v. absurd (omega (arith, ap (λ (x : Slot). x .rank) (freed-here xs j (omega (arith, w .size))))))
+        (λ v. absurd (omega (arith, ap (λ (x : Slot). x .rank) (freed-here xs j (omega (arith, array-holds n k xs w))))))
         (λ m a b. part-by-length cells (slotAt (freed xs j) i) (slotAt xs i) i m (ap (λ (x : Slot). lengthAt x m) (freed-there xs j i apart))))
     freed-phase j inside u e (done z) = done z
 
@@ -198,7 +198,7 @@ module _ (n : ℕ) (k : Kind) (K : Key) (P : List ℕ) (parts : List (List ℕ))
       → elem number (q .arrived) ≡ false → complete (length parts) (add number (q .arrived)) ≡ false
       → Seating n (λ j. slotAt own j .rank) q i d → Fine (acted n s K (length parts) number o (keeps i d x))
   fine-kept i inside d x e t ls ms held octets new open′ place =
-      let tr = track-kept n K parts k own (w .size) (q .store .cells) long i inside x e t ls ms (q .arrived) held octets number (adm .low) high o small brought in
+      let tr = track-kept n K parts k own (array-holds n k own w) (q .store .cells) long i inside x e t ls ms (q .arrived) held octets number (adm .low) high o small brought in
       let r = withSlots (q .store .rec) (toFront own i (withPart x number (length o))) in
       record {
         served = λ h. waits r i d new open′ (h ∙ ap (λ (p : List ℕ). after (kept i d) r (placed (q .store .cells) (cellAt i number) p) (c .output)) brought) place (tr .bears);
@@ -238,7 +238,7 @@ module _ (n : ℕ) (k : Kind) (K : Key) (P : List ℕ) (parts : List (List ℕ))
 
     fine-again : elem number (q .arrived) ≡ true → Fine (acted n s K (length parts) number o (repeats i))
     fine-again old =
-        let tr′ = track-again n K parts own (q .store .cells) i (q .arrived) since (w .size) tr in
+        let tr′ = track-again n K parts own (q .store .cells) i (q .arrived) since (array-holds n k own w) tr in
         let r = withSlots (q .store .rec) (toFront own i (slotAt own i)) in
         record {
           served = λ h. served-again r old (subst (Bears n (r .slots) K) is (tr′ .bears)) (h ∙ ap (λ (j : ℕ). after (heldAlready j) r (q .store .cells) (c .output)) is);
@@ -253,7 +253,7 @@ module _ (n : ℕ) (k : Kind) (K : Key) (P : List ℕ) (parts : List (List ℕ))
     gone j l u e = go (same? j i)
       where
         go : Same j i → ⊥
-        go (same f p) = omega (arith, ap (λ (m : ℕ). slotAt (freed own i) m .rank) p, ap (λ (x : Slot). x .rank) (freed-here own i (omega (arith, w .size, tr .bears .inside))))
+        go (same f p) = omega (arith, ap (λ (m : ℕ). slotAt (freed own i) m .rank) p, ap (λ (x : Slot). x .rank) (freed-here own i (omega (arith, array-holds n k own w, tr .bears .inside))))
         go (other f p) = p (w .keys j i l (tr .bears .inside) (was j p u) (tr .bears .used) (ap (λ (x : Slot). x .key) (sym (freed-there own i j p)) ∙ e ∙ sym (tr .bears .key)))
           where
             was : (j : ℕ) → (j ≡ i → ⊥) → 0 < slotAt (freed own i) j .rank → 0 < slotAt own j .rank

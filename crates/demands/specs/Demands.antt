@@ -1,12 +1,12 @@
--- THE THREE DEMANDS on the library, at 01's three slots.
+-- THE THREE DEMANDS on the library, for every number of slots that a record can have (02 [5]).
 use Prim.Native.Nat.{ℕ}
 use mathlib.Core.Bool.{Bool}
 use mathlib.Core.List.{List}
 use Rattle.types.specs.declared.Kind.{Kind}
 use Rattle.packet.specs.Packets.{Fields}
 use Rattle.types.specs.declared.Key.{Key}
-use Rattle.slots.specs.Slots.{slotCount}
-use Rattle.demands.specs.Refusing.{TakingRefused, ParsingRefused, BuildingRefused, ChecksumRefused, WritingRefused, PageRefused, UnfitRefused}
+use Rattle.demands.specs.Refusing.{TakingRefused, ParsingRefused, BuildingRefused, ChecksumRefused, WritingRefused, PageRefused, UnfitRefused, MakingRefused}
+use Rattle.demands.specs.Runs.{Slots}
 use Rattle.demands.specs.Orders.{OrderFree}
 use Rattle.demands.specs.Twice.{ReadAsWithout, TakenAsWithout, LastReplaces}
 use Rattle.demands.specs.RoundTrips.{BuildThenRead, CommandTells, ReadThenBuild, AnswersBuild, ReadThenBuildCalls, FixedLengths, ChecksumCovers, ParsesOrRefuses, ParsedIsFormed, BuildsOrRefuses, SplitMessages, SplitPages}
@@ -19,15 +19,16 @@ use Rattle.demands.specs.Delivery.{MessagesDelivered, PagesDelivered, Me
 
 -- 1. "Every entry point takes every input, does nothing undefined and ends": no public call asks anything of its caller, and each is proved.
 -- "Bad input, bad buffers and a record that the library could not have made are refused by number. A refusal alters no lent buffer and no
--- record", with one exception.
+-- record", with one exception. What is said of taking holds for every number, also of a record that the library could not have made.
 pub record Demand1 : Type 0 where
-  pub taking : TakingRefused slotCount
+  pub taking : (n : ℕ) → TakingRefused n
   pub parsing : ParsingRefused
   pub building : BuildingRefused
   pub checksum-octets : ChecksumRefused
   pub writing-user-data : WritingRefused
   pub writing-a-page : PageRefused
-  pub unfit : UnfitRefused slotCount
+  pub unfit : (n : ℕ) → UnfitRefused n
+  pub making-a-record : MakingRefused
 
 -- 2. The rules are 01's, and every public call equals its rule; "building then reading gives the same fields, and reading then building the
 -- same octets"; what is split is put together again, by every reader and by taking; the order of a header's elements does not matter, except among the
@@ -47,10 +48,10 @@ pub record Demand2 : Type 0 where
   pub builds-or-refuses : (k : Kind) (x : Fields) → BuildsOrRefuses k x
   pub split-messages : SplitMessages
   pub split-pages : SplitPages
-  pub messages-arrive : MessagesArrive slotCount
-  pub pages-arrive : PagesArrive slotCount
-  pub messages-delivered : MessagesDelivered slotCount
-  pub pages-delivered : PagesDelivered slotCount
+  pub messages-arrive : (n : ℕ) → Slots n → MessagesArrive n
+  pub pages-arrive : (n : ℕ) → Slots n → PagesArrive n
+  pub messages-delivered : (n : ℕ) → Slots n → MessagesDelivered n
+  pub pages-delivered : (n : ℕ) → Slots n → PagesDelivered n
   pub messages-written : MessagesWritten
   pub pages-written : PagesWritten
   pub order-free : OrderFree
@@ -58,11 +59,11 @@ pub record Demand2 : Type 0 where
   pub taken-as-without : TakenAsWithout slotCount
   pub last-replaces : LastReplaces
 
--- 3. The wake window, for either kind, every key, every packet and every cut of it; and "at no moment does one key occupy two slots". No
--- series is displaced while at most three keys are unfinished.
-pub record Demand3 : Type 0 where
-  pub wake-window : (k : Kind) (K : Key) (P : List ℕ) (parts : List (List ℕ)) → WakeWindow slotCount k K P parts
-  pub packet-comes : (k : Kind) (K : Key) (P : List ℕ) (parts : List (List ℕ)) → PacketComes slotCount k K P parts
-  pub always-formed : (k : Kind) → AlwaysFormed slotCount k
-  pub no-key-twice : (k : Kind) → NoKeyTwice slotCount k
-  pub never-displaced : (k : Kind) → NeverDisplaced slotCount k
+-- 3. The wake window with n slots, for either kind, every key, every packet and every cut of it: "at most n − 1 other keys" (02 [5]); and "at
+-- no moment does one key occupy two slots". No series is displaced while at most n keys are unfinished.
+pub record Demand3 (n : ℕ) : Type 0 where
+  pub wake-window : (k : Kind) (K : Key) (P : List ℕ) (parts : List (List ℕ)) → WakeWindow n k K P parts
+  pub packet-comes : (k : Kind) (K : Key) (P : List ℕ) (parts : List (List ℕ)) → PacketComes n k K P parts
+  pub always-formed : (k : Kind) → AlwaysFormed n k
+  pub no-key-twice : (k : Kind) → NoKeyTwice n k
+  pub never-displaced : (k : Kind) → NeverDisplaced n k

@@ -1,5 +1,5 @@
 -- 01's examples marked P ("Examples on both sides"): one list of pairs, a call and all that comes of it, with a single claim about every entry.
--- Each starts from a fresh record for commands; cells and output hold anything.
+-- Each starts from a fresh record for commands, with any number of slots; cells and output hold anything.
 use Prim.Native.Nat.{ℕ}
 use mathlib.Core.Path.{_≡_}
 use mathlib.Core.Bool.{Bool, true, false}
@@ -10,7 +10,7 @@ use Rattle.types.specs.declared.Kind.the-variants.{Command}
 use Rattle.packet.specs.Packets.{mostOctets}
 use Rattle.types.specs.declared.Slot.{Slot}
 use Rattle.types.specs.declared.Record.{Record}
-use Rattle.slots.specs.Slots.{slotCount, freeSlot, freshRecord}
+use Rattle.slots.specs.Slots.{freeSlot, freshRecord}
 use Rattle.series.specs.Cells.{cellsSize}
 use Rattle.series.specs.Taking.{After, kept, packet, refusedBy, state, after}
 use Rattle.series.specs.Calls.{Input, message, page, takeInput}
@@ -32,24 +32,24 @@ abbrev examplePage : ℕ → List ℕ
 examplePage parameter = 0x00 ∷ 0x00 ∷ 0x10 ∷ 0x80 ∷ 0x96 ∷ parameter ∷ content
 
 -- ---- outcomes
--- what a call comes to, whatever the cells and the output held
+-- what a call comes to, with n slots, whatever the cells and the output held
 abbrev Ends : Type 0
-Ends = List ℕ → List ℕ → After
+Ends = ℕ → List ℕ → List ℕ → After
 
 -- record, cells and output as they were
 abbrev refuses : ℕ → Ends
-refuses number cells output = after (refusedBy number) (freshRecord slotCount Command) cells output
+refuses number n cells output = after (refusedBy number) (freshRecord n Command) cells output
 
 -- a packet handed out: its length, the packet at the start of the output, and the rest of that buffer as it was
 abbrev pub handsOut : List ℕ → Ends
-handsOut p cells output = after (packet (length p)) (freshRecord slotCount Command) cells (p ++ drop (length p) output)
+handsOut p n cells output = after (packet (length p)) (freshRecord n Command) cells (p ++ drop (length p) output)
 
 abbrev handsOutM : Ends
 handsOutM = handsOut M
 
 -- a part in slot 0, the most recent series; the other slots are free
-abbrev holds : Slot → Record
-holds x = record { kind = Command; slots = x ∷ freeSlot ∷ freeSlot ∷ [] }
+abbrev holds : ℕ → Slot → Record
+holds n x = record { kind = Command; count = n; slots = x ∷ freeSlot ∷ freeSlot ∷ freeSlot ∷ freeSlot ∷ [] }
 
 abbrev marked : ℕ → List Bool
 marked i = set (replicate 16 false) i true
@@ -74,20 +74,20 @@ seriesM = record {
 }
 
 abbrev keepsH : Ends
-keepsH cells output = after (kept 0 false) (holds seriesH) (placed cells 134 []) output
+keepsH n cells output = after (kept 0 false) (holds n seriesH) (placed cells 134 []) output
 
 abbrev keepsM : Ends
-keepsM cells output = after (kept 0 false) (holds seriesM) (placed cells 134 content) output
+keepsM n cells output = after (kept 0 false) (holds n seriesM) (placed cells 134 content) output
 
 -- ---- the examples, all messages from sender 9
 pub record Example : Type 0 where
   pub input : Input
-  pub outcome : List ℕ → List ℕ → After
+  pub outcome : Ends
 
-abbrev of : List ℕ → (List ℕ → List ℕ → After) → Example
+abbrev of : List ℕ → Ends → Example
 of ud o = record { input = message 9 ud; outcome = o }
 
-abbrev ofPage : ℕ → (List ℕ → List ℕ → After) → Example
+abbrev ofPage : ℕ → Ends → Example
 ofPage parameter o = record { input = page (examplePage parameter); outcome = o }
 
 abbrev pub examples : List Example
@@ -113,11 +113,11 @@ examples =
     ∷ ofPage 0x32 (refuses 4)
     ∷ []
 
--- the claim about an entry: with cells and an output of 01's lengths, the call comes to that
-abbrev pub Right : Example → Type 0
-Right e =
-    (cells output : List ℕ) → length cells ≡ cellsSize slotCount → length output ≡ mostOctets
-    → takeInput slotCount (state (freshRecord slotCount Command) cells output) (e .input) ≡ e .outcome cells output
+-- the claim about an entry: with n slots, and with cells and an output of the right lengths, the call comes to that
+abbrev pub Right : ℕ → Example → Type 0
+Right n e =
+    (cells output : List ℕ) → length cells ≡ cellsSize n → length output ≡ mostOctets
+    → takeInput n (state (freshRecord n Command) cells output) (e .input) ≡ e .outcome n cells output
 
 abbrev pub Every : (Example → Type 0) → List Example → Type 0
 Every P [] = Unit {0}

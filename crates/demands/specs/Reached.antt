@@ -1,17 +1,17 @@
--- The premises of the wake window can be met, and its number is the right one: a packet in two parts comes with two other keys between them,
--- and does not with three. Buffers are filled with any octet.
-use Prim.Native.Nat.{ℕ}
+-- The premises of the wake window can be met, and its number is the right one, whatever number of slots a record has: with n slots a packet in
+-- two parts comes with n − 1 other keys between them, and does not with n. Buffers are filled with any octet.
+use Prim.Native.Nat.{ℕ, zero, suc, _-_}
 use mathlib.Core.Path.{_≡_}
 use mathlib.Core.Bool.{true}
-use mathlib.Core.List.{List, [], _∷_}
+use mathlib.Core.List.{List, [], _∷_, _++_}
 use lib.ListN.{length, take, drop, replicate}
 use Rattle.types.specs.declared.Kind.the-variants.{Command}
 use Rattle.packet.specs.Packets.{mostOctets}
 use Rattle.types.specs.declared.Key.{Key}
 use Rattle.arrival.specs.Page.{pageKey}
-use Rattle.slots.specs.Slots.{slotCount}
 use Rattle.series.specs.Cells.{cellsSize}
 use Rattle.series.specs.Taking.{kept, packet}
+use Rattle.series.specs.CaseLaws.{Lacks}
 use Rattle.series.specs.Calls.{Input, message, page}
 use Rattle.split.specs.Splitting as split
 use Rattle.demands.specs.Examples.{M}
@@ -50,33 +50,41 @@ module _ (b : ℕ) where
   abbrev pub second : Call
   second = call 1 (0x05 ∷ 0x00 ∷ 0x03 ∷ 0x2A ∷ 0x02 ∷ 0x02 ∷ drop 8 M)
 
-  -- part 2 of 2 of another sender, without octets of its own
+  -- part 2 of 2 of another sender, without octets of its own; and m of them in a row, each of a sender of its own
   abbrev pub other : ℕ → Call
   other sender = call sender (0x05 ∷ 0x00 ∷ 0x03 ∷ 0x2A ∷ 0x02 ∷ 0x02 ∷ [])
 
-  abbrev pub cells : List ℕ
-  cells = replicate (cellsSize slotCount) b
+  abbrev pub others : ℕ → ℕ → List Call
+  others sender zero = []
+  others sender (suc m) = other sender ∷ others (suc sender) m
 
-  abbrev pub two : List Call
-  two = first ∷ other 2 ∷ other 3 ∷ second ∷ []
-
-  -- with two other keys the premises hold, and the packet comes
-  pub record Met : Type 0 where
-    pub start : Start slotCount Command key M halves cells [] two
-    pub comes : outcome slotCount (run slotCount (fresh slotCount Command cells) (first ∷ other 2 ∷ other 3 ∷ [])) second .answer ≡ packet 16
-
-  -- with three the first part is displaced: the second opens a series anew, and displaces another
-  pub record Missed : Type 0 where
-    pub kept-anew : outcome slotCount (run slotCount (fresh slotCount Command cells) (first ∷ other 2 ∷ other 3 ∷ other 4 ∷ [])) second .answer ≡ kept 1 true
+  -- the first part, and then m other keys
+  abbrev pub crowd : ℕ → List Call
+  crowd m = first ∷ others 2 m
 
   -- the parts 1 to t, in order
   abbrev pub inOrder : ℕ → (ℕ → Input) → List Call
   inOrder t written = listed (λ number. record { input = written number; output = replicate mostOctets b }) t
 
+module _ (n b : ℕ) where
+  abbrev pub cells : List ℕ
+  cells = replicate (cellsSize n) b
+
+  -- with n − 1 other keys the premises hold, and the packet comes
+  pub record Met : Type 0 where
+    pub start : Start n Command key M halves cells [] (crowd b (n - 1) ++ second b ∷ [])
+    pub comes : outcome n (run n (fresh n Command cells) (crowd b (n - 1))) (second b) .answer ≡ packet 16
+
+  -- with n the first part is displaced: its key is held no more, and the second part opens a series anew, and displaces another
+  pub record Missed : Type 0 where
+    pub lost : Lacks n (run n (fresh n Command cells) (crowd b n) .rec .slots) key
+    pub slot : ℕ
+    pub kept-anew : outcome n (run n (fresh n Command cells) (crowd b n)) (second b) .answer ≡ kept slot true
+
   -- sixteen parts and fifteen pages are reached: brought in order to a fresh record, they are answered as the wake window says, and the packet
   -- comes
   pub record Longest : Type 0 where
     pub sixteen : split.parts 8 (length longest) ≡ 16
-    pub in-sixteen : InParts slotCount Command key longest 16 (split.partOctets 8 longest) asMessage (begin slotCount Command cells []) (inOrder 16 asMessage)
+    pub in-sixteen : InParts n Command key longest 16 (split.partOctets 8 longest) asMessage (begin n Command cells []) (inOrder b 16 asMessage)
     pub fifteen : split.pages (length longestPaged) ≡ 15
-    pub in-fifteen : InParts slotCount Command (pageKey 0 0x1080) longestPaged 15 (split.contentOf longestPaged) asPage (begin slotCount Command cells []) (inOrder 15 asPage)
+    pub in-fifteen : InParts n Command (pageKey 0 0x1080) longestPaged 15 (split.contentOf longestPaged) asPage (begin n Command cells []) (inOrder b 15 asPage)

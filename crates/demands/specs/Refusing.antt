@@ -15,13 +15,14 @@ use Rattle.types.specs.declared.Key.{Key}
 use Rattle.arrival.specs.Arrivals.{part}
 use Rattle.arrival.specs.Message.{mostUserData}
 use Rattle.arrival.specs.Page.{pageOctets}
-use Rattle.slots.specs.Slots.{slotAt, heldAt, freed, withSlots}
+use Rattle.slots.specs.Slots.{slotAt, heldAt, freed, withSlots, freshRecord, beside, making}
 use Rattle.formed.specs.Formed.{recordFormed}
 use Rattle.series.specs.Cells.{cellsSize}
 use Rattle.series.specs.Taking.{State, refusedBy, state, refuse, completes}
 use Rattle.series.specs.CaseLaws.{Bears}
 use Rattle.series.specs.Calls.{Input, read, takeInput}
 use Rattle.split.specs.Splitting.{written, writeMessage, writePage}
+use Rattle.demands.specs.Runs.{Slots}
 
 -- ---- taking
 -- The call completes the series in that slot: it is read as a part of the slot's key and total, its number is not held, and with it none is
@@ -89,3 +90,14 @@ pub record UnfitRefused (n : ℕ) : Type 0 where
   pub writing-a-page : (serial identifier dcs : ℕ) (p : List ℕ) (which : ℕ) (buffer : List ℕ) → (length buffer ≡ pageOctets → ⊥)
       → writePage serial identifier dcs p which buffer ≡ written (outcome.refused 1) buffer
   pub put : (o : List ℕ) (at : ℕ) (p : List ℕ) → length o < at + length p → (fitsAt o at p ≡ false) × (afterPut o at p ≡ o)
+
+-- ---- making a record
+-- 25 "for a record asked with 0 or more than five slots", and for no other number; what was made is well formed. The record beside 25 has no
+-- slots and is all zero: no call accepts it, whatever number of slots is asked of it and whatever is lent with it.
+pub record MakingRefused : Type 0 where
+  pub made : (n : ℕ) (k : Kind) → Slots n → making n k ≡ beside (outcome.gives tt) (freshRecord n k)
+  pub refused-by : (n : ℕ) (k : Kind) → (Slots n → ⊥) → making n k ≡ beside (outcome.refused 25) (freshRecord 0 k)
+  pub accepted : (n : ℕ) (k : Kind) → Slots n → recordFormed n (freshRecord n k) ≡ true
+  pub no-call : (k : Kind) (cells output : List ℕ) (i : Input)
+      → takeInput 0 (state (freshRecord 0 k) cells output) i ≡ refuse 1 (state (freshRecord 0 k) cells output)
+  pub never-formed : (n : ℕ) (k : Kind) → recordFormed n (freshRecord 0 k) ≡ false

@@ -1,5 +1,5 @@
 -- Sequences of calls: "from a fresh record, buffers of 01's lengths, record and cells passed back as left" (demand 3).
-use Prim.Native.Nat.{ℕ}
+use Prim.Native.Nat.{ℕ, _≤_}
 use mathlib.Core.Path.{_≡_}
 use mathlib.Core.List.{List, [], _∷_, _++_}
 use lib.ListN.{length}
@@ -7,7 +7,7 @@ use Rattle.octets.specs.Octets.{Octets}
 use Rattle.types.specs.declared.Kind.{Kind}
 use Rattle.packet.specs.Packets.{mostOctets}
 use Rattle.types.specs.declared.Record.{Record}
-use Rattle.slots.specs.Slots.{freshRecord}
+use Rattle.slots.specs.Slots.{mostSlots, freshRecord}
 use Rattle.series.specs.Taking.{After, state}
 use Rattle.series.specs.Calls.{Input, octetsOf, takeInput}
 
@@ -20,6 +20,11 @@ pub record Call : Type 0 where
 pub record Store : Type 0 where
   pub rec : Record
   pub cells : List ℕ
+
+-- "for n slots" (02 [5]): a record has 1 to 5
+pub record Slots (n : ℕ) : Type 0 where
+  pub some : 1 ≤ n
+  pub most : n ≤ mostSlots
 
 -- a fresh record of a kind, with cells that hold anything
 abbrev pub fresh : ℕ → Kind → List ℕ → Store

@@ -33,8 +33,9 @@ use Rattle.arrival.specs.Message.{readMessage}
 use Rattle.arrival.specs.Page.{readPage}
 use Rattle.joined.specs.declared.Size.{Size}
 use Rattle.joined.specs.Fronts.{toldSize}
-use Rattle.slots.specs.Slots.{slotCount, freshRecord}
+use Rattle.slots.specs.Slots.{defaultSlots, freshRecord, Beside, beside, toldMaking, making}
 use Rattle.formed.specs.Formed.{recordFormed}
+use Rattle.types.specs.declared.Made.{Made}
 use Rattle.types.specs.declared.Taken.{Taken}
 use Rattle.series.specs.Taking as taking
 use Rattle.types.specs.declared.WrittenPart.{WrittenPart}
@@ -56,6 +57,10 @@ toldPart (r, buffer) = split.written (split.told r) buffer
 abbrev pub toldHanded : Size × List ℕ → Option ℕ × List ℕ
 toldHanded (r, output) = (toldSize r, output)
 
+-- an answer with the record that stands beside it
+abbrev pub toldMade : Made → Beside
+toldMade r = beside (toldMaking (r .answer)) (r .record)
+
 -- an answer with the record, and the lent cells and output as they are afterwards
 abbrev pub toldTaken : Taken × (List ℕ × List ℕ) → taking.After
 toldTaken (r, (cells, output)) = taking.after (taking.toldAnswer (r .answer)) (r .record) cells output
@@ -71,6 +76,8 @@ pub record Tellings : Type 0 where
   pub build-and-checksum : Tight toldBuilt
   -- read_message, read_page
   pub read-message-and-page : Tight toldArrival
+  -- fresh_record_with
+  pub fresh-record-with : Tight toldMade
   -- take_message, take_page
   pub take-message-and-page : Tight toldTaken
   -- write_message, write_page
@@ -83,7 +90,7 @@ pub record Tellings : Type 0 where
 
 -- Where the promise is that the outcome itself is what the rule says, nothing else can be told of it. So it is of the other calls between
 -- crates: wide, formed, before, least, cipher_bit, ciphered_command, element, nothing, plus, walk, in_range, is_pageless, reference_fits, room,
--- no_front, extended, front_of, opened, free_slot, with_part, same_key, seat_of, replaced.
+-- no_front, extended, front_of, opened, free_slot, with_part, same_key, slots_in, seat_of, replaced.
 abbrev pub PlainPromises : Type 1
 PlainPromises = (Outcome : Type 0) → Tight {Outcome = Outcome} {Paper = Outcome} (λ r. r)
 
@@ -131,12 +138,13 @@ pub record Promises : Type 0 where
   pub read-page : (k : Kind) (page : List ℕ) → One (λ (r : Arrival). toldArrival r ≡ readPage k page)
   pub own-octets : (o : List ℕ) (start : ℕ) → One (λ (r : List ℕ). r ≡ list.drop start o)
   -- series
-  pub fresh-record : (k : Kind) → One (λ (r : Record). r ≡ freshRecord slotCount k)
-  pub record-formed : (x : Record) → One (λ (r : Bool). r ≡ recordFormed slotCount x)
+  pub fresh-record : (k : Kind) → One (λ (r : Record). r ≡ freshRecord defaultSlots k)
+  pub fresh-record-with : (k : Kind) (n : ℕ) → One (λ (r : Made). toldMade r ≡ making n k)
+  pub record-formed : (x : Record) → One (λ (r : Bool). r ≡ recordFormed (x .count) x)
   pub take-message : (x : Record) (sender : ℕ) (ud cells out : List ℕ)
-      → One (λ (r : Taken × (List ℕ × List ℕ)). toldTaken r ≡ taking.takeMessage slotCount (taking.state x cells out) sender ud)
+      → One (λ (r : Taken × (List ℕ × List ℕ)). toldTaken r ≡ taking.takeMessage (x .count) (taking.state x cells out) sender ud)
   pub take-page : (x : Record) (page cells out : List ℕ)
-      → One (λ (r : Taken × (List ℕ × List ℕ)). toldTaken r ≡ taking.takePage slotCount (taking.state x cells out) page)
+      → One (λ (r : Taken × (List ℕ × List ℕ)). toldTaken r ≡ taking.takePage (x .count) (taking.state x cells out) page)
   -- splitting
   pub write-message : (k : Kind) (width reference number : ℕ) (p out : List ℕ)
       → One (λ (r : WrittenPart × List ℕ). toldPart r ≡ split.writeMessage k width reference p number out)
