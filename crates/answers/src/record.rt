@@ -3,7 +3,7 @@ use crate::number;
 use crate::rows;
 use crate::say;
 use types::Slot;
-ghost use Prim.Native.Nat.{_<_};
+ghost use Prim.Native.Nat.{_≤_, _<_};
 
 fn mark(held: bool, text: &mut [u8], at: usize) -> usize {
     if held {
@@ -50,11 +50,22 @@ pub fn slot(x: Slot, text: &mut [u8], at: usize) -> usize {
     at
 }
 
-// `record KIND; SLOT; SLOT; SLOT`.
+// How many slots are printed: as many as the record's number says, and no more than there are.
+fn printed(n: u8) -> usize
+    ensures { λ r. ⌜ r ≤ 5 ⌝ }
+{
+    if types::SLOTS < n as usize {
+        return types::SLOTS;
+    }
+    n as usize
+}
+
+// `record KIND`, and `; SLOT` for each slot.
 pub fn record(r: types::Record, text: &mut [u8], at: usize) -> usize {
     let mut at = alone(rows::head(r.kind), text, at);
+    let n = printed(r.count);
     let mut i = 0;
-    while i < types::SLOTS {
+    while i < n {
         at = say(b";", text, at);
         at = slot(r.slots[i], text, at);
         i += 1;

@@ -57,6 +57,8 @@ pub const NUMBERED: u64 = 504023402660;
 
 pub const SLOT: u64 = 635380;
 
+pub const SLOTS: u64 = 20332179;
+
 pub const YES: u64 = 25779;
 
 pub const CELLS: u64 = 3322259;
@@ -272,6 +274,14 @@ pub fn answer(a: Answer) -> Row {
         Answer::HeldAlready { slot } => one(HELD, 6, slot as u64),
         Answer::Packet { length } => one(PACKET, 9, length as u64),
         Answer::Refused(why) => refusal(why),
+    }
+}
+
+// `fresh`, or refused.
+pub fn made(a: types::Making) -> Row {
+    match a {
+        types::Making::Fresh => plain(FRESH),
+        types::Making::Refused(why) => refusal(why),
     }
 }
 

@@ -1,18 +1,22 @@
 -- What the proofs of `bench` cite: one law for each return, over plain variables.
-use Prim.Native.Nat.{ℕ, _-_, _≤_, _<_}
+use Prim.Native.Nat.{ℕ, _-_, _%_, _≤_, _<_}
 use mathlib.Core.Path.{_≡_, refl, sym, ap, _∙_}
-use mathlib.Core.Bool.{Bool, true, false, not, cond, _&&_}
+use mathlib.Core.Bool.{Bool, true, false, not, _&&_}
 use mathlib.Core.List.{List, _++_}
 use native.Mathlib.Omega.{arith}
 use lib.ListN.{length, take, drop, getD, set, replicate}
 use lib.Dec.{eqb, ltb}
 use borrow.Author.Needs.{needs}
-use borrow.Author.Tests.{eq-eqb, ne-eqb, lt-ltb, le-ltb, ltb-true, ltb-false, not-true, not-false}
+use borrow.Author.Tests.{eq-eqb, ne-eqb, lt-ltb, le-ltb, ltb-true, not-true, not-false}
 use Rattle.types.specs.declared.Kind.{Kind}
 use Rattle.types.specs.declared.Kind.the-variants.{Command}
 use Rattle.types.specs.declared.Record.{Record}
+use Rattle.types.specs.declared.Refusal.{Refusal}
+use Rattle.types.specs.declared.Making.{Making}
+use Rattle.types.specs.declared.Making.the-variants.{Fresh, Refused}
+use Rattle.types.specs.Refusals.{refused, gives}
 use Rattle.types.specs.declared.Slot.{Slot}
-use Rattle.skelmarix.specs.Rules.{slotCount, slotAt, withSlots, freshRecord, Answer, state, after, takeMessage, takePage}
+use Rattle.skelmarix.specs.Rules.{defaultSlots, isSlotNumber, cellsSize, Beside, beside, toldMaking, making, slotAt, withSlots, freshRecord, Answer, state, after, takeMessage, takePage}
 use Rattle.words.specs.declared.line.Line.{Line}
 use Rattle.words.specs.Line.{Gathered, lineRead, gathered, silent, Reads}
 use Rattle.lines.specs.Lent.{lentOf, kindBy, senderOf}
@@ -21,7 +25,7 @@ use Rattle.bench.specs.declared.Heard.{Heard}
 use Rattle.bench.specs.Lines as rule
 use Rattle.bench.specs.Lines.{held, rowChanges, LineLeaves, SlotPut, Untouched}
 
-pub start-told : (r : Record) → r ≡ freshRecord slotCount Command
+pub start-told : (r : Record) → r ≡ freshRecord defaultSlots Command
     → record { «record» = r; lent = rule.allRight; numbered = false } ≡ rule.atStart
 start-told r e = rw e
 
@@ -31,29 +35,67 @@ clash b p q = let z : _≡_ {A = ℕ} 0 1 = cc in omega arith
 -- ---- taking
 module _ (row : ℕ) (octets : List ℕ) (r q : Record) (a : Answer) (cells output cells′ output′ : List ℕ) where
   pub call-message : (sender : ℕ) (ud : List ℕ) → row ≡ 1 → sender ≡ senderOf octets → ud ≡ drop 4 octets
-      → after a q cells′ output′ ≡ takeMessage slotCount (state r cells output) sender ud
+      → after a q cells′ output′ ≡ takeMessage (r .count) (state r cells output) sender ud
       → after a q cells′ output′ ≡ rule.call row octets (state r cells output)
   call-message sender ud e f g h = rw (eq-eqb row 1 e) (h ∙ rw (f, g))
 
-  pub call-page : (row ≡ 1 → ⊥) → after a q cells′ output′ ≡ takePage slotCount (state r cells output) octets
+  pub call-page : (row ≡ 1 → ⊥) → after a q cells′ output′ ≡ takePage (r .count) (state r cells output) octets
       → after a q cells′ output′ ≡ rule.call row octets (state r cells output)
   call-page f h = rw (ne-eqb row 1 f) h
 
 -- what a call left of the octets lent, before the rest, is what the line leaves
-pub taken-told : (b b′ : Bench) (row : ℕ) (octets cells output x y : List ℕ) (n m : ℕ) (a : Answer) (r : Record)
-    → n ≡ lentOf (getD (b .lent) 0 0) 6432 (length cells) → m ≡ lentOf (getD (b .lent) 1 0) 2142 (length output)
+pub taken-told : (b b′ : Bench) (row : ℕ) (octets cells output x y : List ℕ) (s n m : ℕ) (a : Answer) (r : Record)
+    → s ≡ cellsSize (b .«record» .count) → n ≡ lentOf (getD (b .lent) 0 0) s (length cells) → m ≡ lentOf (getD (b .lent) 1 0) 2142 (length output)
     → b′ ≡ rule.withRecord b r
     → after a r x y ≡ rule.call row octets (state (b .«record») (take (n - 0) cells) (take (m - 0) output))
     → held b′ (x ++ drop (n - 0) cells) (y ++ drop (m - 0) output)
     ≡ rule.heldTaken (held b cells output) (rule.call row octets (rule.called (held b cells output)))
-taken-told b b′ row octets cells output x y n m a r c o w is =
+taken-told b b′ row octets cells output x y s n m a r size c o w is =
     let all-n : n - 0 ≡ n = omega arith in
     let all-m : m - 0 ≡ m = omega arith in
-    rw (w, ← c, ← o, all-n, all-m, ← (rw (all-n, all-m) at is))
+    rw (w, ← size, ← c, ← o, all-n, all-m, ← (rw (all-n, all-m) at is))
 
-pub fresh-told : (row : ℕ) (k : Kind) (r : Record) (b c : Bench) → k ≡ kindBy (eqb row 5) → r ≡ freshRecord slotCount k → c ≡ rule.withRecord b r
-    → c ≡ rule.withRecord b (freshRecord slotCount (kindBy (eqb row 5)))
-fresh-told row k r b c e f g = rw (g, f, e)
+-- ---- a fresh record
+module _ (k k′ : Kind) (n : ℕ) (b c : Bench) (cells output cells′ output′ : List ℕ) (is : k ≡ k′) where
+  abbrev answer-is : Beside → Bool
+  answer-is (gives x, r) = true
+  answer-is (refused m, r) = false
+
+  module _ (a : Making) (r : Record) (told : beside (toldMaking a) r ≡ making n k) where
+    pub fresh-made : a ≡ Fresh → c ≡ rule.withRecord b r → cells′ ≡ replicate (length cells) 0 → output′ ≡ replicate (length output) 0
+        → held c cells′ output′ ≡ rule.freshMade k′ n (held b cells output)
+    fresh-made e f g h = by-number (isSlotNumber n) refl
+      where
+        by-number : (t : Bool) → isSlotNumber n ≡ t → held c cells′ output′ ≡ rule.freshMade k′ n (held b cells output)
+        by-number true t =
+            let all : beside (toldMaking a) r ≡ beside (gives tt) (freshRecord n k) = told ∙ rw t in
+            let made : r ≡ freshRecord n k = ap (λ (x : Beside). x .1) all in
+            rw (t, f, g, h, made, is)
+        by-number false t =
+            let z : answer-is (beside (toldMaking a) r) ≡ false = rw (told, t) in
+            absurd (clash (answer-is (beside (toldMaking a) r)) (rw e) z)
+
+    pub fresh-refused : (q : Refusal) → a ≡ Refused q → held b cells output ≡ rule.freshMade k′ n (held b cells output)
+    fresh-refused q e = by-number (isSlotNumber n) refl
+      where
+        by-number : (t : Bool) → isSlotNumber n ≡ t → held b cells output ≡ rule.freshMade k′ n (held b cells output)
+        by-number true t =
+            let z : answer-is (beside (toldMaking a) r) ≡ true = rw (told, t) in
+            absurd (clash (answer-is (beside (toldMaking a) r)) z (rw e))
+        by-number false t = rw t
+
+pub asked-five : (count n : ℕ) → count ≡ 0 → 5 ≡ rule.slotsAsked count n
+asked-five count n e = rw (eq-eqb count 0 e)
+
+pub asked-less : (count n : ℕ) → (count ≡ 0 → ⊥) → n < 255 → n ≡ rule.slotsAsked count n
+asked-less count n f l = rw (ne-eqb count 0 f) (omega arith)
+
+pub asked-most : (count n : ℕ) → (count ≡ 0 → ⊥) → 255 ≤ n → 255 ≡ rule.slotsAsked count n
+asked-most count n f l = rw (ne-eqb count 0 f) (omega arith)
+
+pub counted : (b c : Bench) (n : ℕ) (r : Record) → c ≡ rule.withRecord b r → r ≡ rule.withCount (b .«record») (n % 256)
+    → c ≡ rule.withRecord b (rule.withCount (b .«record») (n % 256))
+counted b c n r e f = rw (e, f)
 
 -- ---- lending and numbering
 module _ (row n : ℕ) (b : Bench) where
@@ -68,8 +110,12 @@ module _ (row n : ℕ) (b : Bench) where
       pub note-number : row ≡ 12 → record { «record» = b .«record»; lent = b .lent; numbered = true } ≡ rule.lentNoted row n b
       note-number g = rw (e, ne-eqb row 11 f, eq-eqb row 12 g)
 
-      pub note-none : (row ≡ 12 → ⊥) → b ≡ rule.lentNoted row n b
-      note-none g = rw (e, ne-eqb row 11 f, ne-eqb row 12 g)
+      module _ (g : row ≡ 12 → ⊥) where
+        pub note-slots : (c : Bench) → row ≡ 50 → c ≡ rule.withRecord b (rule.withCount (b .«record») (n % 256)) → c ≡ rule.lentNoted row n b
+        note-slots c h i = rw (e, ne-eqb row 11 f, ne-eqb row 12 g, eq-eqb row 50 h) i
+
+        pub note-none : (row ≡ 50 → ⊥) → b ≡ rule.lentNoted row n b
+        note-none h = rw (e, ne-eqb row 11 f, ne-eqb row 12 g, ne-eqb row 50 h)
 
 module _ (row : ℕ) (e : (ltb 7 row && ltb row 11) ≡ true) where
   both : (a b : Bool) → a && b ≡ true → (a ≡ true) × (b ≡ true)
@@ -83,54 +129,32 @@ module _ (row : ℕ) (e : (ltb 7 row && ltb row 11) ≡ true) where
   lends-high = omega (arith, lends-low, ltb-true row 11 (both (ltb 7 row) (ltb row 11) e .1))
 
 -- ---- by the row
--- a line that fills, or brings a fresh record, by its row
-by-row : (row : ℕ) → row ≤ 6 → (octets : List ℕ) (fresh b other : Bench) (cells output : List ℕ)
-    → held (cond (ltb row 6) fresh b) (replicate (length cells) (cond (ltb row 6) 0 (getD octets 0 0))) (replicate (length output) (cond (ltb row 6) 0 (getD octets 0 0)))
-    ≡ cond (ltb row 6) (rule.allFilled (held b cells output) fresh 0) (cond (eqb row 6) (rule.allFilled (held b cells output) b (getD octets 0 0)) (held other cells output))
-by-row row m octets fresh b other cells output = go (ltb row 6) refl
-  where
-    go : (low : Bool) → ltb row 6 ≡ low
-        → held (cond (ltb row 6) fresh b) (replicate (length cells) (cond (ltb row 6) 0 (getD octets 0 0))) (replicate (length output) (cond (ltb row 6) 0 (getD octets 0 0)))
-        ≡ cond (ltb row 6) (rule.allFilled (held b cells output) fresh 0) (cond (eqb row 6) (rule.allFilled (held b cells output) b (getD octets 0 0)) (held other cells output))
-    go true e = rw e
-    go false e = rw (e, eq-eqb row 6 (omega (arith, m, ltb-false row 6 e)))
-
-module _ (row : ℕ) where
-  pub filler-none : (octets : List ℕ) → row < 6 → 0 ≡ cond (ltb row 6) 0 (getD octets 0 0)
-  filler-none octets l = rw (lt-ltb row 6 l)
-
-  pub filler-octet : (octets : List ℕ) (x : ℕ) → 6 ≤ row → x ≡ getD octets 0 0 → x ≡ cond (ltb row 6) 0 (getD octets 0 0)
-  filler-octet octets x l e = rw (le-ltb row 6 l) e
-
-  pub refreshed-new : (b c d : Bench) → row < 6 → c ≡ d → c ≡ cond (ltb row 6) d b
-  refreshed-new b c d l e = rw (lt-ltb row 6 l) e
-
-  pub refreshed-not : (b d : Bench) → 6 ≤ row → b ≡ cond (ltb row 6) d b
-  refreshed-not b d l = rw (le-ltb row 6 l)
-
-module _ (row n : ℕ) (octets : List ℕ) (b c : Bench) (cells output cells′ output′ : List ℕ) where
+module _ (row count n : ℕ) (octets : List ℕ) (b c : Bench) (cells output cells′ output′ : List ℕ) where
   pub changed-takes : row < 3 → held c cells′ output′ ≡ rule.heldTaken (held b cells output) (rule.call row octets (rule.called (held b cells output)))
-      → held c cells′ output′ ≡ rowChanges row n octets (held b cells output)
+      → held c cells′ output′ ≡ rowChanges row count n octets (held b cells output)
   unfolding rowChanges
   changed-takes l h = rw (lt-ltb row 3 l) h
 
   module _ (l : 3 ≤ row) where
-    module _ (x : ℕ) (d : Bench) (cells-are : cells′ ≡ replicate (length cells) x) (output-is : output′ ≡ replicate (length output) x) where
-      pub changed-fills : row ≤ 6 → x ≡ cond (ltb row 6) 0 (getD octets 0 0)
-          → d ≡ cond (ltb row 6) (rule.withRecord b (freshRecord slotCount (kindBy (eqb row 5)))) b → c ≡ d
-          → held c cells′ output′ ≡ rowChanges row n octets (held b cells output)
-      unfolding rowChanges
-      changed-fills m f g e =
-          rw (le-ltb row 3 l, e, g, cells-are, output-is, f) (by-row row m octets (rule.withRecord b (freshRecord slotCount (kindBy (eqb row 5)))) b (rule.lentNoted row n b) cells output)
+    pub changed-fresh : (m : ℕ) → row < 6 → m ≡ rule.slotsAsked count n
+        → held c cells′ output′ ≡ rule.freshMade (kindBy (eqb row 5)) m (held b cells output)
+        → held c cells′ output′ ≡ rowChanges row count n octets (held b cells output)
+    unfolding rowChanges
+    changed-fresh m k e h = rw (le-ltb row 3 l, lt-ltb row 6 k, ← e) h
 
-    module _ (m : 6 < row) where
-      pub changed-notes : (d : Bench) → d ≡ rule.lentNoted row n b → c ≡ d → held c cells output ≡ rowChanges row n octets (held b cells output)
+    module _ (k : 6 ≤ row) where
+      pub changed-fills : (x : ℕ) → row ≡ 6 → x ≡ getD octets 0 0 → cells′ ≡ replicate (length cells) x → output′ ≡ replicate (length output) x → c ≡ b
+          → held c cells′ output′ ≡ rowChanges row count n octets (held b cells output)
       unfolding rowChanges
-      changed-notes d e g = rw (le-ltb row 3 l, le-ltb row 6 (omega (arith, m)), ne-eqb row 6 (λ z. omega (arith, z, m)), ← e, g)
+      changed-fills x e f g h i = rw (le-ltb row 3 l, le-ltb row 6 k, eq-eqb row 6 e, g, h, i, f)
 
-pub done-told : (row n m : ℕ) (octets o : List ℕ) (b c d : Bench) (cells output cells′ output′ : List ℕ) → n ≡ m → octets ≡ o → d ≡ c
-    → held c cells′ output′ ≡ rowChanges row n octets (held b cells output) → held d cells′ output′ ≡ rowChanges row m o (held b cells output)
-done-told row n m octets o b c d cells output cells′ output′ e f g h = rw (g, ← e, ← f) h
+      pub changed-notes : (d : Bench) → (row ≡ 6 → ⊥) → d ≡ rule.lentNoted row n b → c ≡ d → held c cells output ≡ rowChanges row count n octets (held b cells output)
+      unfolding rowChanges
+      changed-notes d z e g = rw (le-ltb row 3 l, le-ltb row 6 k, ne-eqb row 6 z, ← e, g)
+
+pub done-told : (row count n m : ℕ) (octets o : List ℕ) (b c d : Bench) (cells output cells′ output′ : List ℕ) → n ≡ m → octets ≡ o → d ≡ c
+    → held c cells′ output′ ≡ rowChanges row count n octets (held b cells output) → held d cells′ output′ ≡ rowChanges row count m o (held b cells output)
+done-told row count n m octets o b c d cells output cells′ output′ e f g h = rw (g, ← e, ← f) h
 
 -- ---- putting a slot
 pub put-told : (b b′ : Bench) (i : ℕ) (x : Slot) (q : Record) (z : Heard) → q ≡ withSlots (b .«record») (set (b .«record» .slots) i x)
@@ -171,12 +195,13 @@ module _ (line : List ℕ) (b : Bench) (cells output : List ℕ) (z : Heard) (t 
       leaves-slot g p = rule.slot (sym is ∙ e) (rw (yes, ← row-is) (eq-eqb (l .row) 13 g)) (rw (r .is) at p) refl refl
 
       pub leaves-other : (cells′ output′ : List ℕ) → (l .row ≡ 13 → ⊥) → z .understood ≡ true
-          → held (z .bench) cells′ output′ ≡ rowChanges (l .row) (getD (l .values) 0 0) (take (l .end) line′) (held b cells output)
+          → held (z .bench) cells′ output′ ≡ rowChanges (l .row) (l .count) (getD (l .values) 0 0) (take (l .end) line′) (held b cells output)
           → LineLeaves line b cells output z cells′ output′
       leaves-other cells′ output′ g h k =
           let values-is : l .values ≡ lineRead line .values = ap (λ (s : Gathered). s .values) (r .is) in
+          let count-is : l .count ≡ lineRead line .count = ap (λ (s : Gathered). s .count) (r .is) in
           let octets-is : take (l .end) line′ ≡ lineRead line .octets = ap (λ (s : Gathered). s .octets) (r .is) in
-          rule.other (sym is ∙ e) (rw (yes, ← row-is) (ne-eqb (l .row) 13 g)) (h ∙ sym yes) (rw (yes, ← row-is, ← values-is, ← octets-is) k)
+          rule.other (sym is ∙ e) (rw (yes, ← row-is) (ne-eqb (l .row) 13 g)) (h ∙ sym yes) (rw (yes, ← row-is, ← count-is, ← values-is, ← octets-is) k)
 
 -- a line that is understood may write to the buffer; one that is not has not
 module _ (u : Bool) (before : List ℕ) where
@@ -189,21 +214,24 @@ module _ (u : Bool) (before : List ℕ) where
 pub ruleset steps = (
   needs,
   start-told,
-  fresh-told,
   call-message,
   call-page,
   taken-told,
   note-lends,
   note-right,
   note-number,
+  note-slots,
   note-none,
+  fresh-made,
+  fresh-refused,
+  asked-five,
+  asked-less,
+  asked-most,
+  counted,
   lends-low,
   lends-high,
   changed-takes,
-  filler-none,
-  filler-octet,
-  refreshed-new,
-  refreshed-not,
+  changed-fresh,
   changed-fills,
   changed-notes,
   done-told,

@@ -4,14 +4,12 @@ use answers::rows;
 use types::Record;
 use words::table;
 ghost use mathlib.Core.Path.{_≡_};
-ghost use Prim.Native.Nat.{_<_, _≤_};
-ghost use mathlib.Core.Bool.{cond};
+ghost use Prim.Native.Nat.{_<_, _≤_, _%_};
 ghost use lib.ListN.{length, getD, replicate, set};
-ghost use lib.Dec.{eqb, ltb};
-ghost use Rattle.skelmarix.specs.Rules.{state, after, toldAnswer, freshRecord, slotCount};
+ghost use Rattle.skelmarix.specs.Rules.{cellsSize, state, after, toldAnswer};
 ghost use Rattle.lines.specs.Lent.{kindBy, lentOf};
 ghost use Rattle.bench.specs.Lines as rule;
-ghost use Rattle.bench.specs.Lines.{held, called, heldTaken, rowChanges, lentNoted, withRecord};
+ghost use Rattle.bench.specs.Lines.{held, called, heldTaken, rowChanges, lentNoted, withRecord, withCount, slotsAsked, freshMade};
 
 // What is held afterwards, and the answer.
 pub(crate) struct Made {
@@ -52,10 +50,17 @@ fn lent_of(b: Bench, i: usize, right: usize, all: usize) -> usize
     lines::lent(sizes[i], right, all)
 }
 
+// The right number of octets of the cells, by the record's number of slots.
+fn right_cells(r: Record) -> usize
+    ensures { λ n. ⌜ n ≡ cellsSize (r .count) ⌝ }
+{
+    r.count as usize * types::SLOT_OCTETS
+}
+
 fn take(row: usize, octets: &[u8], b: Bench, cells: &mut [u8], output: &mut [u8]) -> Made
     ensures { λ r. ⌜ held (r .bench) (now (cells .exit)) (now (output .exit)) ≡ heldTaken (held b (now (cells .entry)) (now (output .entry))) (rule.call row (now (octets .entry)) (called (held b (now (cells .entry)) (now (output .entry))))) ⌝ }
 {
-    let n = lent_of(b, 0, types::CELLS_OCTETS, cells.len());
+    let n = lent_of(b, 0, right_cells(b.record), cells.len());
     let m = lent_of(b, 1, types::PACKET_OCTETS, output.len());
     let t = call(row, b.record, octets, &mut cells[0..n], &mut output[0..m]);
     let answer = t.answer;
@@ -86,6 +91,15 @@ fn lend(b: Bench, i: usize, n: usize) -> Bench
     c
 }
 
+// The bench with another number of slots in its record, whatever they hold.
+fn with_count(b: Bench, n: usize) -> Bench
+    ensures { λ r. ⌜ r ≡ withRecord b (withCount (b .«record») (n % 256)) ⌝ }
+{
+    let mut r = b.record;
+    r.count = (n % 256) as u8;
+    with_record(b, r)
+}
+
 fn note(row: usize, n: usize, b: Bench) -> Bench
     ensures { λ r. ⌜ r ≡ lentNoted row n b ⌝ }
 {
@@ -101,80 +115,90 @@ fn note(row: usize, n: usize, b: Bench) -> Bench
         c.numbered = true;
         return c;
     }
+    if row == table::SLOTS {
+        return with_count(b, n);
+    }
     b
 }
 
-// What a line says that took nothing.
-fn name_of(row: usize) -> u64 {
-    if row < table::FILL {
-        return rows::FRESH;
-    }
+// What a line answers that took nothing.
+fn answer_of(row: usize, n: usize) -> answers::Row {
     if row == table::FILL {
-        return rows::FILLED;
+        return rows::plain(rows::FILLED);
+    }
+    if row == table::SLOTS {
+        return rows::one(rows::SLOTS, 6, n as u64);
     }
     if row == table::NUMBER {
-        rows::NUMBERED
+        rows::plain(rows::NUMBERED)
     } else {
-        rows::LENT
+        rows::plain(rows::LENT)
     }
 }
 
-// The bench with a fresh record.
-fn fresh(row: usize, b: Bench) -> Bench
-    ensures { λ r. ⌜ r ≡ withRecord b (freshRecord slotCount (kindBy (eqb row 5))) ⌝ }
+// The number of slots that a line asks for: five if it names none. The library takes an octet: a greater number is handed in as 255.
+fn slots_asked(count: usize, n: usize) -> u8
+    ensures { λ r. ⌜ r ≡ slotsAsked count n ⌝ }
 {
-    with_record(
-        b,
-        skelmarix::fresh_record(lines::kind_of(row == table::FRESH_RESPONSE)),
-    )
-}
-
-// The bench once cells and output are filled: a line that fills keeps the record.
-fn refreshed(row: usize, b: Bench) -> Bench
-    ensures { λ r. ⌜ r ≡ cond (ltb row 6) (withRecord b (freshRecord slotCount (kindBy (eqb row 5)))) b ⌝ }
-{
-    if row < table::FILL {
-        return fresh(row, b);
+    if count == 0 {
+        return types::SLOTS as u8;
     }
-    b
+    if n < 255 { n as u8 } else { 255 }
 }
 
-// The octet with which a line fills: 0 with a fresh record.
-fn filler(row: usize, octets: &[u8]) -> u8
-    ensures { λ r. ⌜ r ≡ cond (ltb row 6) 0 (getD (now (octets .entry)) 0 0) ⌝ }
+// A fresh record, with cells and output all 00; what the library refuses to make changes nothing.
+fn fresh(response: bool, n: u8, b: Bench, cells: &mut [u8], output: &mut [u8]) -> Made
+    ensures { λ r. ⌜ held (r .bench) (now (cells .exit)) (now (output .exit)) ≡ freshMade (kindBy response) n (held b (now (cells .entry)) (now (output .entry))) ⌝ }
 {
-    if row < table::FILL {
-        return 0;
+    let m = skelmarix::fresh_record_with(lines::kind_of(response), n);
+    let answer = m.answer;
+    let after = m.record;
+    match answer {
+        types::Making::Fresh => {
+            fill_both(0, cells, output);
+            Made {
+                bench: with_record(b, after),
+                row: rows::made(answer),
+            }
+        }
+        types::Making::Refused(why) => Made {
+            bench: b,
+            row: rows::made(types::Making::Refused(why)),
+        },
     }
-    lines::octet(octets, 0)
 }
 
-fn named(b: Bench, row: usize) -> Made
+fn named(b: Bench, row: usize, n: usize) -> Made
     ensures { λ r. ⌜ r .bench ≡ b ⌝ }
 {
     Made {
         bench: b,
-        row: rows::plain(name_of(row)),
+        row: answer_of(row, n),
     }
 }
 
 // Changes what is held as the line's row says.
 pub(crate) fn change(
     row: usize,
+    count: usize,
     n: usize,
     octets: &[u8],
     b: Bench,
     cells: &mut [u8],
     output: &mut [u8],
 ) -> Made
-    ensures { λ r. ⌜ held (r .bench) (now (cells .exit)) (now (output .exit)) ≡ rowChanges row n (now (octets .entry)) (held b (now (cells .entry)) (now (output .entry))) ⌝ }
+    ensures { λ r. ⌜ held (r .bench) (now (cells .exit)) (now (output .exit)) ≡ rowChanges row count n (now (octets .entry)) (held b (now (cells .entry)) (now (output .entry))) ⌝ }
 {
     if row < 3 {
         return take(row, octets, b, cells, output);
     }
-    if row <= table::FILL {
-        fill_both(filler(row, octets), cells, output);
-        return named(refreshed(row, b), row);
+    if row < table::FILL {
+        let slots = slots_asked(count, n);
+        return fresh(row == table::FRESH_RESPONSE, slots, b, cells, output);
     }
-    named(note(row, n, b), row)
+    if row == table::FILL {
+        fill_both(lines::octet(octets, 0), cells, output);
+        return named(b, row, n);
+    }
+    named(note(row, n, b), row, n)
 }

@@ -76,11 +76,11 @@ fn done(
     text: &mut [u8],
     at: usize,
 ) -> Heard
-    ensures { λ r. ⌜ (r .understood ≡ true) × (held (r .bench) (now (cells .exit)) (now (output .exit)) ≡ rowChanges (l .row) (getD (l .values) 0 0) (take (l .end) (now (line .entry))) (held b (now (cells .entry)) (now (output .entry)))) ⌝ }
+    ensures { λ r. ⌜ (r .understood ≡ true) × (held (r .bench) (now (cells .exit)) (now (output .exit)) ≡ rowChanges (l .row) (l .count) (getD (l .values) 0 0) (take (l .end) (now (line .entry))) (held b (now (cells .entry)) (now (output .entry)))) ⌝ }
 {
     let octets = skelmarix::first_octets(line, l.end);
     let values = l.values;
-    let made = changes::change(l.row, first(values), octets, b, cells, output);
+    let made = changes::change(l.row, l.count, first(values), octets, b, cells, output);
     let end = asks::say(l, octets, made, cells, output, buffer, text, at);
     answered(made.bench, end)
 }

@@ -15,7 +15,7 @@ ghost use Rattle.bench.specs.Lines.{SlotPut, withRecord};
 
 // The record with a slot put.
 fn put_slot(r: Record, i: usize, x: Slot) -> Record
-    requires { ⌜ i < 3 ⌝ }
+    requires { ⌜ i < 5 ⌝ }
     ensures { λ q. ⌜ q ≡ withSlots r (set (r .slots) i x) ⌝ }
 {
     let mut q = r;
@@ -24,7 +24,7 @@ fn put_slot(r: Record, i: usize, x: Slot) -> Record
 }
 
 fn put(b: Bench, i: usize, x: Slot, text: &mut [u8], at: usize) -> Heard
-    requires { ⌜ i < 3 ⌝ }
+    requires { ⌜ i < 5 ⌝ }
     ensures { λ r. ⌜ (r .understood ≡ true) × (r .bench ≡ withRecord b (withSlots (b .«record») (set (b .«record» .slots) i x))) ⌝ }
 {
     let after = put_slot(b.record, i, x);

@@ -99,7 +99,7 @@ pub fn answer_row(l: Line, fields: &[u8], row: Row, size: usize, buffer: &mut [u
         fill(buffer, octet(fields, 0));
         return row;
     }
-    if l.row <= table::SLOT {
+    if (l.row <= table::SLOT) | (l.row == table::SLOTS) {
         return row;
     }
     if l.row <= table::BUFFER {

@@ -288,18 +288,18 @@ module _ (line : List ℕ) (from end : ℕ) (there : from < length line) where
 pub record Finding (key i : ℕ) : Type 0 where
   pub is : rowFrom key i (drop i keys) ≡ rowOf key
   pub past : 1 ≤ i
-  pub inside : i ≤ 50
+  pub inside : i ≤ 51
 
 module _ (key : ℕ) where
   pub find-none : Finding key 1
   find-none = record { is = refl; past = omega arith; inside = omega arith }
 
   module _ (i : ℕ) (u : Finding key i) where
-    pub find-out : 50 ≤ i → 0 ≡ rowOf key
+    pub find-out : 51 ≤ i → 0 ≡ rowOf key
     unfolding rowFrom
-    find-out l = let e : i ≡ 50 = omega (arith, u .inside) in subst (λ (k : ℕ). rowFrom key k (drop k keys) ≡ rowOf key) e (u .is)
+    find-out l = let e : i ≡ 51 = omega (arith, u .inside) in subst (λ (k : ℕ). rowFrom key k (drop k keys) ≡ rowOf key) e (u .is)
 
-    module _ (more : i < 50) where
+    module _ (more : i < 51) where
       next : rowFrom key i (drop i keys) ≡ cond (eqb (getD keys i 0) key) i (rowFrom key (i + 1) (drop (suc i) keys))
       unfolding rowFrom
       next = rw (drop-cons keys i 0 more)
@@ -392,7 +392,7 @@ module _ (last : Bool) (sort : ℕ) where
 
   module _ (s r : Line) (line : List ℕ) (at : ℕ) (t : drop at line ≡ skipped (drop (s .at) line)) (is : last ≡ isEmpty (drop at line)) (k : sort ≡ s .sorts % 16) where
     pub step-closed : (last || eqb sort 0 || eqb sort 15) ≡ true
-        → ((l : List ℕ) → gathered r l ≡ rule.lineEnds (gathered s l) (eqb sort 15 || (eqb sort 0 && last)) (drop at l))
+        → ((l : List ℕ) → gathered r l ≡ rule.lineEnds (gathered s l) (eqb sort 15 || ((eqb sort 0 || eqb sort 7) && last)) (drop at l))
         → gathered r line ≡ rule.step (gathered s line)
     unfolding rule.step
     step-closed e h = h line ∙ rw (← k, ← t, ← is, e)

@@ -98,7 +98,7 @@ worded s sort w = cond (eqb sort 1) (named s w (rowOf (nameAfter (s .row) (w .va
 -- one word more
 abbrev pub stepped : Gathered → ℕ → List ℕ → Gathered
 stepped s sort t =
-    cond (isEmpty t || eqb sort 0 || eqb sort 15) (lineEnds s (eqb sort 15 || (eqb sort 0 && isEmpty t)) t)
+    cond (isEmpty t || eqb sort 0 || eqb sort 15) (lineEnds s (eqb sort 15 || ((eqb sort 0 || eqb sort 7) && isEmpty t)) t)
     (worded s sort (wordRead sort (s .octets) t))
 
 unfoldable pub step : Gathered → Gathered

@@ -9,7 +9,8 @@ use lib.ListN.{drop, getD}
 use Rattle.words.specs.Letters.{letters}
 
 -- ---- sorts of words
--- a name; a number up to 4,294,967,295, 65,535, 16,384, 255 or 2; octets, any number of them or so many; parts of a slot
+-- a name; a number up to 4,294,967,295, 65,535, 16,384, 255 or 4, or the first of these that may be left out at a line's end; octets, any number
+-- of them or so many; parts of a slot
 abbrev pub name : ℕ
 name = 1
 
@@ -28,6 +29,9 @@ octet = 5
 abbrev pub place : ℕ
 place = 6
 
+abbrev pub numberOrNone : ℕ
+numberOrNone = 7
+
 abbrev pub any : ℕ
 any = 8
 
@@ -39,7 +43,7 @@ slotParts = 15
 
 -- the greatest number of each sort; no name has more than eight letters
 abbrev pub mosts : List ℕ
-mosts = 0 ∷ 1099511627775 ∷ 4294967295 ∷ 65535 ∷ 16384 ∷ 255 ∷ 2 ∷ 0 ∷ []
+mosts = 0 ∷ 1099511627775 ∷ 4294967295 ∷ 65535 ∷ 16384 ∷ 255 ∷ 4 ∷ 4294967295 ∷ []
 
 abbrev pub mostOf : ℕ → ℕ
 mostOf sort = getD mosts (sort % 8) 0
@@ -69,8 +73,8 @@ rows =
     row 0 "message" (octets 4 then any) ∷
     row 0 "page" any ∷
     row 0 "fresh" name ∷
-    row 3 "command" end ∷
-    row 3 "response" end ∷
+    row 3 "command" numberOrNone ∷
+    row 3 "response" numberOrNone ∷
     row 0 "fill" (octets 1) ∷
     row 0 "lend" name ∷
     row 7 "cells" upToLent ∷
@@ -115,6 +119,7 @@ rows =
     row 44 "page" name ∷
     row 47 "command" any ∷
     row 47 "response" any ∷
+    row 0 "slots" octet ∷
     []
 
 -- the key of a name behind an earlier row

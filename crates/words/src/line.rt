@@ -160,7 +160,7 @@ fn step(s: Line, line: &mut [u8]) -> Line
     let at = skip(line, s.at);
     let last = is_last(line, at);
     if last | (sort == 0) | (sort == 15) {
-        return closed(s, (sort == 15) | ((sort == 0) & last), at);
+        return closed(s, (sort == 15) | (((sort == 0) | (sort == 7)) & last), at);
     }
     let w = word_read(sort, line, at, s.end);
     worded(s, sort, w)

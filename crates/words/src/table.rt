@@ -6,7 +6,7 @@ ghost use lib.ListN.{getD};
 ghost use Rattle.words.specs.Table.{keys, rowOf, allSorts, mostOf};
 
 // How many rows there are; row 0 is where a line begins, and stands for none.
-const ROWS: usize = 50;
+const ROWS: usize = 51;
 
 // The rows that lines are told apart by.
 pub const MESSAGE: usize = 1;
@@ -58,6 +58,8 @@ pub const READ_COMMAND: usize = 45;
 pub const READ_RESPONSE: usize = 46;
 
 pub const READ_PAGE_RESPONSE: usize = 49;
+
+pub const SLOTS: usize = 50;
 
 // The key of each row: its earlier row and its name.
 const KEYS: [u64; ROWS] = [
@@ -111,6 +113,7 @@ const KEYS: [u64; ROWS] = [
     48378512147685,
     51680785106372,
     52301545323109,
+    20332179,
 ];
 
 // The sorts of the words that follow, four bits each, the first lowest.
@@ -119,8 +122,8 @@ const SORTS: [u64; ROWS] = [
     0x8C,
     0x8,
     0x1,
-    0x0,
-    0x0,
+    0x7,
+    0x7,
     0x9,
     0x1,
     0x4,
@@ -165,13 +168,23 @@ const SORTS: [u64; ROWS] = [
     0x1,
     0x8,
     0x8,
+    0x5,
 ];
 
 // The greatest number of each sort.
-const MOSTS: [u64; 8] = [0, 1099511627775, 4294967295, 65535, 16384, 255, 2, 0];
+const MOSTS: [u64; 8] = [
+    0,
+    1099511627775,
+    4294967295,
+    65535,
+    16384,
+    255,
+    4,
+    4294967295,
+];
 
 fn key_at(i: usize) -> u64
-    requires { ⌜ i < 50 ⌝ }
+    requires { ⌜ i < 51 ⌝ }
     ensures { λ r. ⌜ r ≡ getD keys i 0 ⌝ }
 {
     KEYS[i]
@@ -179,7 +192,7 @@ fn key_at(i: usize) -> u64
 
 // The row of a key; 0 if there is none.
 pub(crate) fn find(key: u64) -> usize
-    ensures { λ r. ⌜ (r ≡ rowOf key) × (r < 50) ⌝ }
+    ensures { λ r. ⌜ (r ≡ rowOf key) × (r < 51) ⌝ }
 {
     let mut i = 1;
     while i < ROWS {
@@ -193,7 +206,7 @@ pub(crate) fn find(key: u64) -> usize
 
 // The sorts of the words behind a row.
 pub(crate) fn sorts_of(row: usize) -> u64
-    requires { ⌜ row < 50 ⌝ }
+    requires { ⌜ row < 51 ⌝ }
     ensures { λ r. ⌜ r ≡ getD allSorts row 0 ⌝ }
 {
     SORTS[row]

@@ -7,14 +7,14 @@ use Rattle.answers.proofs.record.record.Statement.{statement}
 use Rattle.answers.proofs.record.record.Tie as tie
 
 abbrev Inv-loop : tie.InvT-loop
-Inv-loop text₀ at r at₀ i₀ t7 text at' i = length text ≡ length text₀
+Inv-loop text₀ at r at₀ n i₀ t7 text at' i = length text ≡ length text₀
 
 abbrev μ-loop : tie.MeasureT-loop
-μ-loop text₀ at r at₀ i₀ t7 text at' i = 3 - i
+μ-loop text₀ at r at₀ n i₀ t7 text at' i = n - i
 
 pub record-spec : {M : Type 1} → statement M
 record-spec =
     tie.close
-    (tie.spec Inv-loop μ-loop (λ c κs. search steps) (λ c κs. search steps) (λ c. search steps) (λ c. search steps) (λ c κs. search steps)
+    (tie.spec Inv-loop μ-loop (λ c κs. search steps) (λ c κs. search steps) (λ c κs. search steps) (λ c. search steps) (λ c. search steps) (λ c κs. search steps)
     (λ c. search steps) (λ c. search steps) (λ c κs. search steps) (λ c. search steps) (λ c. search steps) (λ c. search steps) (λ c. search steps)
     (λ c. search steps))

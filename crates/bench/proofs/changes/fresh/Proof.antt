@@ -1,7 +1,11 @@
--- The record is the fresh one of the kind that the row says. Assumes nothing.
+-- By what the library answered: a record that it made is taken over and the buffers are filled; otherwise all stays. Assumes nothing.
 use Rattle.bench.proofs.Steps.{steps}
 use Rattle.bench.proofs.changes.fresh.Statement.{statement}
 use Rattle.bench.proofs.changes.fresh.Tie as tie
 
 pub fresh-spec : {M : Type 1} → statement M
-fresh-spec = tie.close (tie.spec (λ c κs. search steps) (λ c κs. search steps) (λ c κs. search steps) (λ c. search steps))
+fresh-spec =
+    tie.close
+    (tie.spec (λ c κs. search steps) (λ c κs. search steps) (λ c. search steps) (λ c κs. search steps) (λ c κs. search steps)
+    (λ c κs. search steps) (λ c. search steps) (λ c κs. search steps) (λ c. search steps) (λ c. search steps)
+    (λ c. search steps) (λ c. search steps))

@@ -1,4 +1,4 @@
--- By cases on the row. Assumes nothing.
+-- By cases on the row, in the order of the rule. Assumes nothing.
 use Rattle.bench.proofs.Steps.{steps}
 use Rattle.bench.proofs.changes.note.Statement.{statement}
 use Rattle.bench.proofs.changes.note.Tie as tie
@@ -6,5 +6,5 @@ use Rattle.bench.proofs.changes.note.Tie as tie
 pub note-spec : {M : Type 1} → statement M
 note-spec =
     tie.close
-    (tie.spec (λ c. search steps) (λ c. search steps) (λ c κs. search steps) (λ c. search steps) (λ c. search steps) (λ c. search steps)
-    (λ c. search steps))
+    (tie.spec (λ c. search steps) (λ c. search steps) (λ c κs. search steps) (λ c. search steps) (λ c. search steps)
+    (λ c. search steps) (λ c κs. search steps) (λ c. search steps) (λ c. search steps))

@@ -6,6 +6,6 @@ use Rattle.bench.proofs.changes.take.Tie as tie
 pub take-spec : {M : Type 1} → statement M
 take-spec =
     tie.close
-    (tie.spec (λ c κs. search steps) (λ c κs. search steps) (λ c. search steps) (λ c. search steps) (λ c. search steps) (λ c. search steps)
+    (tie.spec (λ c κs. search steps) (λ c κs. search steps) (λ c κs. search steps) (λ c. search steps) (λ c. search steps) (λ c. search steps) (λ c. search steps)
     (λ c. search steps) (λ c. search steps) (λ c κs. search steps) (λ c κs. search steps) (λ c κs. search steps) (λ c. search steps)
     (λ c. search steps) (λ c. search steps))
