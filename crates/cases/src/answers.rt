@@ -69,7 +69,7 @@ pub const NONE: u16 = 65535;
 
 // The reference in slot i.
 fn reference(state: Record, i: usize) -> u16 {
-    if 2 < i {
+    if 4 < i {
         return NONE;
     }
     let x = state.slots[i];
@@ -79,11 +79,13 @@ fn reference(state: Record, i: usize) -> u16 {
     x.key.reference
 }
 
-// Whether the slots hold the series with these references.
+// Whether the first three slots hold the series with these references, and the others none.
 fn holds(state: Record, first: u16, second: u16, third: u16) -> bool {
     (reference(state, 0) == first)
         & (reference(state, 1) == second)
         & (reference(state, 2) == third)
+        & (reference(state, 3) == NONE)
+        & (reference(state, 4) == NONE)
 }
 
 // Whether part 2 alone, of this length, is held in slot 0.

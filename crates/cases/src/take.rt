@@ -8,9 +8,11 @@ use skelmarix::Kind;
 use skelmarix::PACKET_OCTETS;
 use skelmarix::PAGE_OCTETS;
 use skelmarix::Record;
+use skelmarix::SLOT_OCTETS;
 use skelmarix::Taken;
 use skelmarix::first_octets;
 use skelmarix::fresh_record;
+use skelmarix::fresh_record_with;
 use skelmarix::own_octets;
 use skelmarix::put_octets;
 use skelmarix::take_message;
@@ -56,10 +58,10 @@ fn each(
 }
 
 // Before the first call.
-fn start() -> Taken {
+fn start(state: Record) -> Taken {
     Taken {
         answer: Answer::Packet { length: 0 },
-        record: fresh_record(Kind::Command),
+        record: state,
     }
 }
 
@@ -67,7 +69,18 @@ fn start() -> Taken {
 fn example(paged: bool, octets: &[u8], last: u8, expected: Expected) -> u8 {
     let mut cells = [answers::BEFORE; CELLS_OCTETS];
     let mut out = [answers::BEFORE; PACKET_OCTETS];
-    let taken = each(paged, start(), octets, last, &mut cells, &mut out);
+    let fresh = start(fresh_record(Kind::Command));
+    let taken = each(paged, fresh, octets, last, &mut cells, &mut out);
+    answers::after(taken, &out, expected)
+}
+
+// The same of messages, on a record of three slots.
+fn in_three(octets: &[u8], last: u8, expected: Expected) -> u8 {
+    let mut cells = [answers::BEFORE; 3 * SLOT_OCTETS];
+    let mut out = [answers::BEFORE; PACKET_OCTETS];
+    let made = fresh_record_with(Kind::Command, 3);
+    let state = made.record;
+    let taken = each(false, start(state), octets, last, &mut cells, &mut out);
     answers::after(taken, &out, expected)
 }
 
@@ -97,13 +110,13 @@ pub fn too_short() -> u8 {
     )
 }
 
-// Part 2 of 2 arrives of the series A, B, C and these two, up to that whose octets begin at `last`.
+// Part 2 of 2 arrives of the series A, B, C and these two, up to that whose octets begin at `last`. There are three slots.
 fn series(fourth: u8, fifth: u8, last: u8, expected: Expected) -> u8 {
     let mut uds =
         *b"\x05\x00\x03\x0A\x02\x02.\x05\x00\x03\x0B\x02\x02.\x05\x00\x03\x0C\x02\x02.\x05\x00\x03?\x02\x02.\x05\x00\x03?\x02\x02.";
     uds[24] = fourth;
     uds[31] = fifth;
-    example(false, first_octets(&uds, last as usize + 7), last, expected)
+    in_three(first_octets(&uds, last as usize + 7), last, expected)
 }
 
 // A, B, C, then D displaces A; A, B, C, A again, then D displaces B.

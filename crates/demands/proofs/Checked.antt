@@ -2,6 +2,7 @@
 use Prim.Native.Nat.{_%_}
 use mathlib.Core.Path.{_≡_, refl}
 use mathlib.Core.Bool.{false}
+use mathlib.Core.List.{[], _∷_}
 use native.Mathlib.Omega.{arith}
 use lib.ListN.{length, getD}
 use borrow.Author.Tests.{eq-eqb, ne-eqb}
@@ -10,11 +11,9 @@ use Rattle.packet.specs.Packets.{Fields, plain, ciphered, againstCheck, parsing
 use Rattle.joined.specs.Fronts.{packetIn}
 use Rattle.header.specs.Header.{elementsAfter, summary}
 use Rattle.arrival.specs.Message.{judged, readMessage}
-use Rattle.slots.specs.Below.{allBelow, anyBelow, countBelow}
-use Rattle.formed.specs.Formed.{allZero, slotFormed, keysDiffer, ranked, slotsFormed}
-use Rattle.series.specs.Taking.{takeMessage}
 use Rattle.split.specs.Splitting.{partOctets, userData}
 use Rattle.demands.specs.Checked.{CheckBits, StillCarried}
+use Rattle.demands.proofs.Examples.{all-right}
 
 response-unchecked : (x : Fields) → againstCheck Response x ≡ false
 response-unchecked (plain f c d) = refl
@@ -31,9 +30,9 @@ check-bits = record {
 }
 
 pub still-carried : StillCarried
-unfolding parsing elementsAfter summary judged readMessage allBelow anyBelow countBelow allZero slotFormed keysDiffer ranked slotsFormed packetIn takeMessage partOctets userData
+unfolding parsing elementsAfter summary judged readMessage packetIn partOctets userData
 still-carried = record {
   parsing-refuses = refl;
   splitting-writes = refl;
-  handed-out = λ cells output c o. rw (c, o);
+  handed-out = λ n good. all-right n good (_ ∷ []) ((λ cells output. refl), tt) .0;
 }

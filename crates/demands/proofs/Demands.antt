@@ -49,7 +49,7 @@ demand-2 = record {
   pages-written = delivery.pages-written;
   order-free = orders.order-free;
   read-as-without = twice.read-as-without;
-  taken-as-without = twice.taken-as-without slotCount;
+  taken-as-without = twice.taken-as-without;
   last-replaces = twice.last-replaces;
 }
 

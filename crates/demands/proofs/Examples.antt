@@ -42,7 +42,7 @@ module _ (n : ℕ) (good : Slots n) where
       ≡ e .outcome n cells output
 
   -- with the right lengths it is not refused 1
-  all-right : (es : List Example) → Every Reads es → Every (Right n) es
+  pub all-right : (es : List Example) → Every Reads es → Every (Right n) es
   all-right [] h = tt
   all-right (e ∷ es) (h, hs) = (
     (λ cells output c o.

@@ -11,6 +11,7 @@ use Rattle.types.specs.Refusals.{refused}
 use Rattle.packet.specs.Packets.{Fields, plain, ciphered, cipheredCommand, againstCheck, parsing}
 use Rattle.series.specs.Calls.{message}
 use Rattle.split.specs.Splitting.{userData}
+use Rattle.demands.specs.Runs.{Slots}
 use Rattle.demands.specs.Examples.{handsOut, Right}
 
 -- The test of a plain command with the fields f before its check field c, case by case. SPI's first octet is the first of f.
@@ -33,4 +34,4 @@ unchecked =
 pub record StillCarried : Type 0 where
   pub parsing-refuses : parsing Command (cipheredCommand unchecked) unchecked ≡ refused 15
   pub splitting-writes : userData Command 8 0 unchecked 1 ≡ 0x02 ∷ 0x70 ∷ 0x00 ∷ unchecked
-  pub handed-out : Right (record { input = message 9 (0x02 ∷ 0x70 ∷ 0x00 ∷ unchecked); outcome = handsOut unchecked })
+  pub handed-out : (n : ℕ) → Slots n → Right n (record { input = message 9 (0x02 ∷ 0x70 ∷ 0x00 ∷ unchecked); outcome = handsOut unchecked })

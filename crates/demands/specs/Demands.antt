@@ -56,7 +56,7 @@ pub record Demand2 : Type 0 where
   pub pages-written : PagesWritten
   pub order-free : OrderFree
   pub read-as-without : ReadAsWithout
-  pub taken-as-without : TakenAsWithout slotCount
+  pub taken-as-without : (n : ℕ) → TakenAsWithout n
   pub last-replaces : LastReplaces
 
 -- 3. The wake window with n slots, for either kind, every key, every packet and every cut of it: "at most n − 1 other keys" (02 [5]); and "at

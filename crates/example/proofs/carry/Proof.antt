@@ -7,7 +7,7 @@ use Rattle.example.proofs.carry.Statement.{statement}
 use Rattle.example.proofs.carry.Tie as tie
 
 abbrev Inv-loop : tie.InvT-loop
-Inv-loop kind packet out₀ order cells₀ ud₀ taken₀ i₀ out cells ud taken i = (i ≤ 3) × (length out ≡ length out₀) × (length cells ≡ 6432) × (length ud ≡ 140)
+Inv-loop kind packet out₀ order cells₀ ud₀ taken₀ i₀ out cells ud taken i = (i ≤ 3) × (length out ≡ length out₀) × (length cells ≡ 10720) × (length ud ≡ 140)
 
 abbrev μ-loop : tie.MeasureT-loop
 μ-loop kind packet out₀ order cells₀ ud₀ taken₀ i₀ out cells ud taken i = 3 - i
