@@ -5,7 +5,7 @@
 #include <string.h>
 #include "calls.h"
 
-enum { CELLS = 6432, MOST = 2142, PAGED = 1230, SMALL = 52, UD = 140, PAGE = 88, SUM = 2145, PAINTED = 16384 };
+enum { SLOT = 2144, CELLS = 5 * SLOT, MOST = 2142, PAGED = 1230, SMALL = 52, UD = 140, PAGE = 88, SUM = 2145, PAINTED = 16384 };
 
 static uint8_t cells[CELLS], out[MOST], ud[UD], page[PAGE], sum[SUM];
 static uint8_t packet[MOST], paged[PAGED], small[SMALL], response[MOST];
@@ -64,12 +64,13 @@ static void gives(const char *name, void (*call)(void), size_t right) {
 
 /* ---- the calls */
 static void nothing(void) {}
-static void hand_back(void) { taken = cost_hand_back(record, 7, ud, length, cells, CELLS, out, MOST); }
-static void take_message(void) { taken = cost_take_message(record, 7, ud, length, cells, CELLS, out, MOST); }
-static void take_page(void) { taken = cost_take_page(record, page, PAGE, cells, CELLS, out, MOST); }
+static void hand_back(void) { taken = cost_hand_back(record, 7, ud, length, cells, record.count * SLOT, out, MOST); }
+static void take_message(void) { taken = cost_take_message(record, 7, ud, length, cells, record.count * SLOT, out, MOST); }
+static void take_page(void) { taken = cost_take_page(record, page, PAGE, cells, record.count * SLOT, out, MOST); }
 static void read_message(void) { length = cost_read_message(0, 7, ud, length); }
 static void read_page(void) { length = cost_read_page(0, page, PAGE); }
 static void fresh(void) { record = cost_fresh_record(0); }
+static void three(void) { record = cost_fresh_record_with(0, 3); }
 static void formed(void) { length = cost_record_formed(record); }
 static void parse_command(void) { length = cost_parse_command(packet, MOST); }
 static void parse_short(void) { length = cost_parse_command(packet, 100); }
@@ -128,8 +129,26 @@ static void empty_elements(void) {
 }
 
 /* ---- the cases */
+/* a part of a series that is held, with n slots, all used */
+static void kept(const char *name, uint8_t n) {
+    record = cost_fresh_record_with(0, n);
+    for (uint32_t r = 1; r <= n; r++) hold(r, 1);
+    part(1, 2);
+    answers(name, take_message, 1, 0);
+}
+
+static void numbers(void) {
+    kept("take_message, kept, one slot", 1);
+    kept("take_message, kept, two slots", 2);
+    kept("take_message, kept, three slots", 3);
+    kept("take_message, kept, four slots", 4);
+    kept("take_message, kept, five slots", 5);
+}
+
 static void messages(void) {
     fresh(), part(1, 2);
+    answers("take_message, kept, empty record of five slots", take_message, 1, 0);
+    three(), part(1, 2);
     answers("take_message, kept, empty record", take_message, 1, 0);
     hold(1, 1), hold(2, 1), part(3, 1);
     answers("take_message, kept, new, two others held", take_message, 1, 2);
@@ -156,7 +175,7 @@ static void messages(void) {
 }
 
 static void pages(void) {
-    fresh();
+    three();
     for (uint32_t k = 1; k < 15; k++) {
         cost_write_page(5, 0x1080, 0, k, paged, PAGED, page, PAGE);
         if (k == 3) answers("take_page, kept, one series held", take_page, 1, 0);
@@ -168,8 +187,10 @@ static void pages(void) {
 }
 
 static void records(void) {
+    run("fresh_record_with", three);
     run("fresh_record", fresh);
     gives("record_formed, fresh", formed, 1);
+    three();
     hold(1, 1), hold(2, 1), hold(3, 1);
     gives("record_formed, three series held", formed, 1);
 }
@@ -216,6 +237,6 @@ int main(int argc, char **argv) {
     fill();
     run("an empty call", nothing);
     run("a call that hands the record back as it is", hand_back);
-    messages(), pages(), records(), packets(), octets();
+    numbers(), messages(), pages(), records(), packets(), octets();
     return 0;
 }

@@ -4,9 +4,10 @@
 #include <stdint.h>
 typedef struct { uint32_t sender; uint8_t width; uint16_t reference, serial, identifier; } Key;
 typedef struct { uint8_t rank; Key key; uint8_t total, lengths[16]; bool held[16]; } Slot;
-typedef struct { uint8_t kind; Slot slots[3]; } Record;
+typedef struct { uint8_t kind, count; Slot slots[5]; } Record;
 typedef struct { uint8_t what; bool displaced; size_t number; Record record; } Taken;
 Record cost_fresh_record(uint8_t kind);
+Record cost_fresh_record_with(uint8_t kind, uint8_t n);
 Taken cost_hand_back(Record, uint32_t sender, const uint8_t *ud, size_t, uint8_t *cells, size_t, uint8_t *out, size_t);
 bool cost_record_formed(Record);
 Taken cost_take_message(Record, uint32_t sender, const uint8_t *ud, size_t, uint8_t *cells, size_t, uint8_t *out, size_t);
