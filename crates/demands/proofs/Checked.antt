@@ -12,7 +12,7 @@ use Rattle.joined.specs.Fronts.{packetIn}
 use Rattle.header.specs.Header.{elementsAfter, summary}
 use Rattle.arrival.specs.Message.{judged, readMessage}
 use Rattle.split.specs.Splitting.{partOctets, userData}
-use Rattle.demands.specs.Checked.{CheckBits, StillCarried}
+use Rattle.demands.specs.Checked.{CheckBits, carriedExample, StillCarried}
 use Rattle.demands.proofs.Examples.{all-right}
 
 response-unchecked : (x : Fields) → againstCheck Response x ≡ false
@@ -34,5 +34,5 @@ unfolding parsing elementsAfter summary judged readMessage packetIn partOctets u
 still-carried = record {
   parsing-refuses = refl;
   splitting-writes = refl;
-  handed-out = λ n good. all-right n good (_ ∷ []) ((λ cells output. refl), tt) .0;
+  handed-out = λ n good. all-right n good (carriedExample ∷ []) ((λ cells output. refl), tt) .0;
 }

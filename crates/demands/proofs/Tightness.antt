@@ -40,7 +40,7 @@ use Rattle.types.specs.declared.Arrival.the-variants as arrival
 use Rattle.arrival.specs.Arrivals.{Brought, single, part, toldArrival}
 use Rattle.joined.specs.declared.Size as joined
 use Rattle.joined.specs.Fronts.{toldSize}
-use Rattle.slots.specs.Slots.{defaultSlots, freshRecord, Begun, toldMaking}
+use Rattle.slots.specs.Slots.{defaultSlots, freshRecord, Beside, toldMaking}
 use Rattle.formed.specs.Formed.{recordFormed}
 use Rattle.types.specs.declared.Answer.{Answer}
 use Rattle.types.specs.declared.Answer.the-variants as answer
@@ -184,7 +184,7 @@ unfolding makingOf
 making-back making.Fresh = refl
 making-back (making.Refused r) = ap making.Refused (refusal-back r)
 
-madeOf : Begun → Made
+madeOf : Beside → Made
 madeOf (answer, r) = record { answer = makingOf answer; «record» = r }
 
 made-back : (r : Made) → madeOf (toldMade r) ≡ r

@@ -12,7 +12,7 @@ use Rattle.packet.specs.Packets.{Fields, plain, ciphered, cipheredCommand, agai
 use Rattle.series.specs.Calls.{message}
 use Rattle.split.specs.Splitting.{userData}
 use Rattle.demands.specs.Runs.{Slots}
-use Rattle.demands.specs.Examples.{handsOut, Right}
+use Rattle.demands.specs.Examples.{Example, handsOut, Right}
 
 -- The test of a plain command with the fields f before its check field c, case by case. SPI's first octet is the first of f.
 pub record CheckBits : Type 0 where
@@ -30,8 +30,12 @@ abbrev unchecked : List ℕ
 unchecked =
     0x00 ∷ 0x0E ∷ 0x0D ∷ 0x01 ∷ 0x00 ∷ 0x00 ∷ 0x00 ∷ 0xB0 ∷ 0x00 ∷ 0x10 ∷ 0x00 ∷ 0x00 ∷ 0x00 ∷ 0x00 ∷ 0x00 ∷ 0x00 ∷ []
 
+-- the message that splitting writes of it, and what taking that comes to
+abbrev pub carriedExample : Example
+carriedExample = record { input = message 9 (0x02 ∷ 0x70 ∷ 0x00 ∷ unchecked); outcome = handsOut unchecked }
+
 -- parsing refuses it; splitting writes it as it writes any other, and what is written is taken and handed out
 pub record StillCarried : Type 0 where
   pub parsing-refuses : parsing Command (cipheredCommand unchecked) unchecked ≡ refused 15
   pub splitting-writes : userData Command 8 0 unchecked 1 ≡ 0x02 ∷ 0x70 ∷ 0x00 ∷ unchecked
-  pub handed-out : (n : ℕ) → Slots n → Right n (record { input = message 9 (0x02 ∷ 0x70 ∷ 0x00 ∷ unchecked); outcome = handsOut unchecked })
+  pub handed-out : (n : ℕ) → Slots n → Right n carriedExample
