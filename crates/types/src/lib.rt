@@ -10,7 +10,8 @@ pub enum Kind {
 
 // Why a call was refused: its number, its condition, and the calls that give it. `Refusals.antt` has the numbers as a rule.
 pub enum Refusal {
-    // 1: a lent buffer of another length than it must have, or a record that is not well formed. Taking, building, checksum octets, writing.
+    // 1: a lent buffer of another length than it must have, or a record that is not well formed. Taking, building, checksum octets, writing,
+    // reporting.
     BufferOrRecord,
     // 2: user data of more than 140 octets, or a page of other than 88. Taking, reading.
     InputLength,
@@ -27,14 +28,15 @@ pub enum Refusal {
     OtherTotal,
     // 8: the part is held with other octets. Taking.
     OtherOctets,
-    // 9: octets that are no well-formed packet, or not of the length that its pages allow. Taking, parsing, checksum octets, writing.
+    // 9: octets that are no well-formed packet, or not of the length that its pages allow. Taking, parsing, checksum octets, writing,
+    // reporting.
     MalformedPacket,
     // 10: a plain body although SPI says ciphered, or the other way round; checksum octets of a ciphered packet. Building a command, checksum octets.
     CipherMismatch,
     // 11: a check field, a header length or opaque octets that the header of a packet cannot have. Building.
     PacketHeader,
     // 12: a packet longer than can be carried: 2,142 octets, 2,126 with references of 16 bits, 1,230 in pages. Parsing, building, checksum
-    // octets, writing.
+    // octets, writing, reporting.
     PacketTooLong,
     // 13: a width other than 8 and 16, or a reference that does not fit it. Writing a message.
     ReferenceWidth,
@@ -43,6 +45,10 @@ pub enum Refusal {
     // 15: the check bits of a plain command's SPI say that nothing is checked and there is a check field, or the other way round. Parsing,
     // building, checksum octets: commands.
     CheckMismatch,
+    // 16: a capacity of a delivery report outside 16 to 140 octets. Reporting.
+    ReportCapacity,
+    // 17: the reserved value 11 in the low two bits of SPI's second octet. Reporting.
+    ReservedSpi,
     // 25: a record asked for with no slots, or with more than five. Making a record.
     SlotNumber,
 }
@@ -68,6 +74,8 @@ impl Refusal {
             Refusal::ReferenceWidth => 13,
             Refusal::PartNumber => 14,
             Refusal::CheckMismatch => 15,
+            Refusal::ReportCapacity => 16,
+            Refusal::ReservedSpi => 17,
             Refusal::SlotNumber => 25,
         }
     }
@@ -254,12 +262,24 @@ pub const PAGE_OCTETS: usize = 88;
 
 pub const PAGE_CONTENT: usize = 82;
 
-// ---- splitting, and numbers on the air
+// ---- splitting
 // What writing one part answers: how many parts the packet has, and how many octets are at the buffer's start.
 pub enum WrittenPart {
     Part { total: usize, length: usize },
     Refused(Refusal),
 }
 
+// ---- reporting
+// What goes out when a response is there: nothing; a delivery report that carries it; a delivery report that announces it, and then the response
+// as submitted parts; or these alone. `length` is how many octets of the report are at the buffer's start.
+pub enum Outgoing {
+    Nothing,
+    Report { length: usize },
+    Announcement { length: usize },
+    Submit,
+    Refused(Refusal),
+}
+
+// ---- numbers on the air
 // Two octets of a 16-bit number, the high one first, as they are on the air.
 pub struct Pair(pub u8, pub u8);
