@@ -11,6 +11,11 @@ use lib.Dec.{eqb}
 use lib.Seq.{take-length, take-all, length-take-le, drop-drop, drop-cons}
 use borrow.Author.Needs.{needs}
 use borrow.Author.Tests.{le-leb, lt-leb}
+use Rattle.types.specs.declared.Refusal.{Refusal}
+use Rattle.types.specs.declared.Answer as answer
+use Rattle.types.specs.declared.Written as written
+use Rattle.types.specs.declared.WrittenPart as part
+use Rattle.octets.specs.Given.{packetLength, writtenLength, partLength}
 use Rattle.octets.specs.Octets.{placed, fitsAt, afterPut, sameOctets}
 use Rattle.octets.specs.Laws.{same-true}
 
@@ -81,8 +86,21 @@ module _ (a b : List ℕ) where
         let m : length b ≤ i = omega arith in
         sym (and-true ok) ∙ rw (drop-of-length-le a l, drop-of-length-le b m) at found
 
+-- ---- the length of what an answer is about: none, if it is refused
+pub packet-refused : (a : answer.Answer) (r : Refusal) → a ≡ answer.the-variants.Refused r → 0 ≡ packetLength a
+packet-refused a r e = rw e
+
+pub written-refused : (a : written.Written) (r : Refusal) → a ≡ written.the-variants.Refused r → 0 ≡ writtenLength a
+written-refused a r e = rw e
+
+pub part-refused : (a : part.WrittenPart) (r : Refusal) → a ≡ part.the-variants.Refused r → 0 ≡ partLength a
+part-refused a r e = rw e
+
 pub ruleset steps = (
   needs,
+  packet-refused,
+  written-refused,
+  part-refused,
   take-count,
   take-whole,
   take-as-many,
