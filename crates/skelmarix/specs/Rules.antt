@@ -1,8 +1,10 @@
 -- The rules that a user's contract cites, under one name, and nothing of its own: a number of two octets, the sizes of buffers, a record, a fresh
--- one, what making one comes to, and what taking comes to.
+-- one, what making one comes to, what taking comes to, and what reporting comes to.
 pub use Rattle.octets.specs.Octets.{numberOf}
 pub use Rattle.packet.specs.Packets.{mostOctets}
 pub use Rattle.series.specs.Cells.{cellsSize}
 pub use Rattle.slots.specs.Slots.{mostSlots, defaultSlots, isSlotNumber, slotAt, freshRecord, withSlots, Beside, beside, toldMaking, making}
 pub use Rattle.series.specs.Taking.{State, state, Answer, After, after, toldAnswer}
 unfoldable pub use Rattle.series.specs.Taking.{takeMessage, takePage}
+pub use Rattle.report.specs.Reporting.{Going, nothingGoes, inReport, announced, submitted, Reported, reported, toldOutgoing}
+unfoldable pub use Rattle.report.specs.Reporting.{writeReport}

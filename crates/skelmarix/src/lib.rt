@@ -75,6 +75,10 @@ pub use split::write_message;
 pub use split::write_page;
 pub use types::WrittenPart;
 
+// Reporting: what goes out of a response, and the delivery report.
+pub use report::write_report;
+pub use types::Outgoing;
+
 // Octets: the first of a slice, some put into a buffer, two slices compared, a number as the pair that is on the air.
 pub use octets::number_of;
 pub use octets::pair_of;
