@@ -12,6 +12,7 @@ use Rattle.demands.proofs.RoundTrips as trips
 use Rattle.demands.proofs.Checked as checked
 use Rattle.demands.proofs.SplitTaken as split
 use Rattle.demands.proofs.Delivery as delivery
+use Rattle.demands.proofs.Reports as reports
 
 pub demand-1 : Demand1
 demand-1 = record {
@@ -21,6 +22,7 @@ demand-1 = record {
   checksum-octets = refusing.checksum-refused;
   writing-user-data = refusing.writing-refused;
   writing-a-page = refusing.page-refused;
+  writing-a-report = refusing.report-refused;
   unfit = refusing.unfit-refused;
   making-a-record = refusing.making-refused;
 }
@@ -51,6 +53,8 @@ demand-2 = record {
   read-as-without = twice.read-as-without;
   taken-as-without = twice.taken-as-without;
   last-replaces = twice.last-replaces;
+  none-lost = reports.none-lost;
+  report-refusals = reports.report-refusals;
 }
 
 pub demand-3 : (n : ℕ) → Slots n → Demand3 n

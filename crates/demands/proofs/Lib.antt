@@ -16,4 +16,5 @@ pub mod SplitTaken
 pub mod Written
 pub mod Delivery
 pub mod Reached
+pub mod Reports
 pub mod Demands

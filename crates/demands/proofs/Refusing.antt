@@ -27,7 +27,8 @@ use Rattle.series.specs.Taking.{State, state, After, kept, heldAlready, packet,
 use Rattle.series.specs.CaseLaws.{Case, other-total, other-octets, again, last, more, opens, displaces, case-of}
 use Rattle.series.specs.Calls.{Input, octetsOf, read, takeInput}
 use Rattle.split.specs.Splitting as split
-use Rattle.demands.specs.Refusing.{Leaves, unaltered, dropped, TakingRefused, BuildingRefused, ChecksumRefused, WritingRefused, PageRefused, ParsingRefused, UnfitRefused, MakingRefused}
+use Rattle.report.specs.Reporting as report
+use Rattle.demands.specs.Refusing.{Leaves, unaltered, dropped, TakingRefused, BuildingRefused, ChecksumRefused, WritingRefused, PageRefused, ReportRefused, ParsingRefused, UnfitRefused, MakingRefused}
 use Rattle.demands.specs.Runs.{Slots}
 use Rattle.demands.proofs.Calls.{isPage, taking-any}
 
@@ -120,6 +121,17 @@ pub page-refused : PageRefused
 unfolding split.writePage
 page-refused serial identifier dcs p which buffer = piece-left (split.writingPage serial identifier dcs p which buffer) buffer
 
+report-left : (o : outcome.Outcome (report.Going (List ℕ))) (buffer : List ℕ) (number : ℕ) → report.writesReport o buffer .0 ≡ outcome.refused number → report.writesReport o buffer .1 ≡ buffer
+report-left (outcome.refused m) buffer number e = refl
+report-left (outcome.gives report.nothingGoes) buffer number e = refl
+report-left (outcome.gives report.submitted) buffer number e = refl
+report-left (outcome.gives (report.inReport o)) buffer number e = let z : _≡_ {A = ℕ} 0 1 = cc in absurd (omega arith)
+report-left (outcome.gives (report.announced o)) buffer number e = let z : _≡_ {A = ℕ} 0 1 = cc in absurd (omega arith)
+
+pub report-refused : ReportRefused
+unfolding report.writeReport
+report-refused spi capacity p buffer = report-left (report.reporting report.responseFollows spi capacity p (length buffer)) buffer
+
 -- ---- parsing
 nothing : {A : Type 0} (number : ℕ) (x : A) (y : List ℕ) (a b c : Bool)
     → (refuse 9 when a otherwise refuse 12 when b otherwise refuse 15 when c otherwise outcome.gives x) ≡ outcome.refused number
@@ -148,7 +160,7 @@ unfit-into : (size : ℕ) (o : outcome.Outcome (List ℕ)) (buffer : List ℕ) �
 unfit-into size o buffer ne = rw (ne-eqb (length buffer) size ne)
 
 pub unfit-refused : (n : ℕ) → UnfitRefused n
-unfolding built checksummed split.writing split.writeMessage split.writingPage split.writePage
+unfolding built checksummed split.writing split.writeMessage split.writingPage split.writePage report.reporting report.writeReport
 unfit-refused n = record {
   taking-cells = λ s i ne. unfit-taken n s i (rw (ne-eqb (length (s .cells)) (cellsSize n) ne));
   taking-output = λ s i ne. unfit-taken n s i (rw (ne-eqb (length (s .output)) mostOctets ne, or-true (not (eqb (length (s .cells)) (cellsSize n)))));
@@ -157,6 +169,7 @@ unfit-refused n = record {
   checksum-octets = λ k c p buffer. unfit-into mostChecksum (checksumOctets k c p) buffer;
   writing-user-data = λ k width reference p which buffer ne. rw (ne-eqb (length buffer) mostUserData ne);
   writing-a-page = λ serial identifier dcs p which buffer ne. rw (ne-eqb (length buffer) pageOctets ne);
+  writing-a-report = λ spi capacity p buffer ne. rw (ne-eqb (length buffer) report.mostReport ne);
   put = λ o at p l. (lt-leb (at + length p) (length o) l, rw (lt-leb (at + length p) (length o) l));
 }
 

@@ -11,7 +11,7 @@ use Rattle.octets.specs.Octets as octets
 use Rattle.octets.specs.Given as given
 use Rattle.types.specs.declared.Kind.the-variants.{Command, Response}
 use Rattle.types.specs.declared.Refusal.{Refusal}
-use Rattle.types.specs.declared.Refusal.the-variants.{BufferOrRecord, InputLength, HeaderOverrun, HeaderElement, WrongIdentifier, TooManyParts, OtherTotal, OtherOctets, MalformedPacket, CipherMismatch, PacketHeader, PacketTooLong, ReferenceWidth, PartNumber, CheckMismatch, SlotNumber}
+use Rattle.types.specs.declared.Refusal.the-variants.{BufferOrRecord, InputLength, HeaderOverrun, HeaderElement, WrongIdentifier, TooManyParts, OtherTotal, OtherOctets, MalformedPacket, CipherMismatch, PacketHeader, PacketTooLong, ReferenceWidth, PartNumber, CheckMismatch, ReportCapacity, ReservedSpi, SlotNumber}
 use Rattle.types.specs.declared.Tar.{Tar}
 use Rattle.types.specs.declared.Cntr.{Cntr}
 use Rattle.types.specs.declared.Clear.{Clear}
@@ -52,18 +52,22 @@ use Rattle.series.specs.Taking as taking
 use Rattle.types.specs.declared.WrittenPart.{WrittenPart}
 use Rattle.types.specs.declared.WrittenPart.the-variants as writtenPart
 use Rattle.split.specs.Splitting as split
-use Rattle.demands.specs.Tightness.{Tight, toldBuilt, toldMade, toldPart, toldHanded, toldTaken, Tellings, PlainPromises, One, Promises}
+use Rattle.types.specs.declared.Outgoing.{Outgoing}
+use Rattle.types.specs.declared.Outgoing.the-variants as outgoing
+use Rattle.report.specs.Reporting as report
+use Rattle.demands.specs.Tightness.{Tight, toldBuilt, toldMade, toldPart, toldReport, toldHanded, toldTaken, Tellings, PlainPromises, One, Promises}
 
 -- what can be read back is told of one outcome only
 tight : {O P : Type 0} (told : O → P) (back : P → O) → ((r : O) → back (told r) ≡ r) → Tight told
 tight told back recovers rule r₁ r₂ e₁ e₂ = sym (recovers r₁) ∙ ap back (e₁ ∙ sym e₂) ∙ recovers r₂
 
 -- ---- refusals
+-- by number, counted from 1; where no refusal has the number, the first stands for it
 refusalOf : ℕ → Refusal
 refusalOf n =
     cond (eqb n 25) SlotNumber
     (getD
-    (BufferOrRecord ∷ InputLength ∷ HeaderOverrun ∷ HeaderElement ∷ WrongIdentifier ∷ TooManyParts ∷ OtherTotal ∷ OtherOctets ∷ MalformedPacket ∷ CipherMismatch ∷ PacketHeader ∷ PacketTooLong ∷ ReferenceWidth ∷ PartNumber ∷ CheckMismatch ∷ [])
+    (BufferOrRecord ∷ InputLength ∷ HeaderOverrun ∷ HeaderElement ∷ WrongIdentifier ∷ TooManyParts ∷ OtherTotal ∷ OtherOctets ∷ MalformedPacket ∷ CipherMismatch ∷ PacketHeader ∷ PacketTooLong ∷ ReferenceWidth ∷ PartNumber ∷ CheckMismatch ∷ ReportCapacity ∷ ReservedSpi ∷ [])
     (n - 1) BufferOrRecord)
 
 refusal-back : (r : Refusal) → refusalOf (refusalNumber r) ≡ r
@@ -83,6 +87,8 @@ refusal-back PacketTooLong = refl
 refusal-back ReferenceWidth = refl
 refusal-back PartNumber = refl
 refusal-back CheckMismatch = refl
+refusal-back ReportCapacity = refl
+refusal-back ReservedSpi = refl
 refusal-back SlotNumber = refl
 
 -- ---- parsed packets
@@ -149,6 +155,21 @@ part-back : (r : WrittenPart × List ℕ) → partOf (toldPart r) ≡ r
 unfolding partOf
 part-back (writtenPart.Part t m, b) = refl
 part-back (writtenPart.Refused r, b) = ap (λ (x : Refusal). (writtenPart.Refused x, b)) (refusal-back r)
+
+reportOf : report.Reported → Outgoing × List ℕ
+reportOf (refused n, b) = (outgoing.Refused (refusalOf n), b)
+reportOf (gives report.nothingGoes, b) = (outgoing.Nothing, b)
+reportOf (gives (report.inReport m), b) = (outgoing.Report m, b)
+reportOf (gives (report.announced m), b) = (outgoing.Announcement m, b)
+reportOf (gives report.submitted, b) = (outgoing.Submit, b)
+
+report-back : (r : Outgoing × List ℕ) → reportOf (toldReport r) ≡ r
+unfolding reportOf
+report-back (outgoing.Nothing, b) = refl
+report-back (outgoing.Report m, b) = refl
+report-back (outgoing.Announcement m, b) = refl
+report-back (outgoing.Submit, b) = refl
+report-back (outgoing.Refused r, b) = ap (λ (x : Refusal). (outgoing.Refused x, b)) (refusal-back r)
 
 -- ---- what reading and taking leave
 arrivalOf : Outcome Brought → Arrival
@@ -244,6 +265,7 @@ tellings = record {
   fresh-record-with = tight toldMade madeOf made-back;
   take-message-and-page = tight toldTaken takenOf taken-back;
   write-message-and-page = tight toldPart partOf part-back;
+  write-report = tight toldReport reportOf report-back;
   judge = tight toldJudged judgedOf judged-back;
   walk = tight toldWalked walkedOf walked-back;
   packet-size = tight toldSize sizeOf size-back;
@@ -294,6 +316,7 @@ promises = record {
   take-page = λ x page cells out. tellings .take-message-and-page _;
   write-message = λ k width reference number p out. tellings .write-message-and-page _;
   write-page = λ serial identifier dcs number p out. tellings .write-message-and-page _;
+  write-report = λ spi capacity p out. tellings .write-report _;
 }
   where
     put-one : {r₁ r₂ : Bool × List ℕ} → r₁ .0 ≡ r₂ .0 → r₁ .1 ≡ r₂ .1 → r₁ ≡ r₂

@@ -28,20 +28,20 @@ small-octets done i = omega arith
 small-octets (and x a s) zero = a
 small-octets (and x a s) (suc i) = small-octets s i
 
-octets-small : (l : List ℕ) → Octets l → Small l
+pub octets-small : (l : List ℕ) → Octets l → Small l
 octets-small [] o = done
 octets-small (x ∷ l) o = and x (o 0) (octets-small l (λ i. o (suc i)))
 
-append-small : {a b : List ℕ} → Small a → Small b → Small (a ++ b)
+pub append-small : {a b : List ℕ} → Small a → Small b → Small (a ++ b)
 append-small done t = t
 append-small (and x a s) t = and x a (append-small s t)
 
-take-small : (m : ℕ) {l : List ℕ} → Small l → Small (take m l)
+pub take-small : (m : ℕ) {l : List ℕ} → Small l → Small (take m l)
 take-small zero s = done
 take-small (suc m) done = done
 take-small (suc m) (and x a s) = and x a (take-small m s)
 
-drop-small : (m : ℕ) {l : List ℕ} → Small l → Small (drop m l)
+pub drop-small : (m : ℕ) {l : List ℕ} → Small l → Small (drop m l)
 drop-small zero s = s
 drop-small (suc m) done = done
 drop-small (suc m) (and x a s) = drop-small m s

@@ -5,7 +5,7 @@ use mathlib.Core.List.{List}
 use Rattle.types.specs.declared.Kind.{Kind}
 use Rattle.packet.specs.Packets.{Fields}
 use Rattle.types.specs.declared.Key.{Key}
-use Rattle.demands.specs.Refusing.{TakingRefused, ParsingRefused, BuildingRefused, ChecksumRefused, WritingRefused, PageRefused, UnfitRefused, MakingRefused}
+use Rattle.demands.specs.Refusing.{TakingRefused, ParsingRefused, BuildingRefused, ChecksumRefused, WritingRefused, PageRefused, ReportRefused, UnfitRefused, MakingRefused}
 use Rattle.demands.specs.Runs.{Slots}
 use Rattle.demands.specs.Orders.{OrderFree}
 use Rattle.demands.specs.Twice.{ReadAsWithout, TakenAsWithout, LastReplaces}
@@ -16,6 +16,7 @@ use Rattle.demands.specs.Always.{AlwaysFormed, NoKeyTwice}
 use Rattle.demands.specs.Crowding.{NeverDisplaced}
 use Rattle.demands.specs.SplitTaken.{MessagesArrive, PagesArrive}
 use Rattle.demands.specs.Delivery.{MessagesDelivered, PagesDelivered, MessagesWritten, PagesWritten}
+use Rattle.demands.specs.Reports.{ReportRefusals, NoneLost}
 
 -- 1. "Every entry point takes every input, does nothing undefined and ends": no public call asks anything of its caller, and each is proved.
 -- "Bad input, bad buffers and a record that the library could not have made are refused by number. A refusal alters no lent buffer and no
@@ -27,12 +28,13 @@ pub record Demand1 : Type 0 where
   pub checksum-octets : ChecksumRefused
   pub writing-user-data : WritingRefused
   pub writing-a-page : PageRefused
+  pub writing-a-report : ReportRefused
   pub unfit : (n : ℕ) → UnfitRefused n
   pub making-a-record : MakingRefused
 
 -- 2. The rules are 01's, and every public call equals its rule; "building then reading gives the same fields, and reading then building the
 -- same octets"; what is split is put together again, by every reader and by taking; the order of a header's elements does not matter, except among the
--- concatenation elements, of which the last counts.
+-- concatenation elements, of which the last counts; a report is read as what it is, and none loses the response.
 pub record Demand2 : Type 0 where
   pub build-then-read : BuildThenRead
   pub command-tells : CommandTells
@@ -58,6 +60,8 @@ pub record Demand2 : Type 0 where
   pub read-as-without : ReadAsWithout
   pub taken-as-without : (n : ℕ) → TakenAsWithout n
   pub last-replaces : LastReplaces
+  pub none-lost : (n : ℕ) → Slots n → NoneLost n
+  pub report-refusals : (spi capacity : ℕ) (p buffer : List ℕ) → ReportRefusals spi capacity p buffer
 
 -- 3. The wake window with n slots, for either kind, every key, every packet and every cut of it: "at most n − 1 other keys" (02 [5]); and "at
 -- no moment does one key occupy two slots". No series is displaced while at most n keys are unfinished.

@@ -14,3 +14,4 @@ pub mod RoundTrips
 pub mod Checked
 pub mod SplitTaken
 pub mod Delivery
+pub mod Reports

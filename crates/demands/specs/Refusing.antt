@@ -23,6 +23,7 @@ use Rattle.series.specs.CaseLaws.{Bears}
 use Rattle.series.specs.Calls.{Input, read, takeInput}
 use Rattle.split.specs.Splitting.{written, writeMessage, writePage}
 use Rattle.demands.specs.Runs.{Slots}
+use Rattle.report.specs.Reporting.{mostReport, reported, writeReport}
 
 -- ---- taking
 -- The call completes the series in that slot: it is read as a part of the slot's key and total, its number is not held, and with it none is
@@ -48,7 +49,7 @@ pub data Leaves (n : ℕ) (s : State) (i : Input) (number : ℕ) : State → Typ
 abbrev pub TakingRefused : ℕ → Type 0
 TakingRefused n = (s : State) (i : Input) (number : ℕ) → takeInput n s i .answer ≡ refusedBy number → Leaves n s i number (takeInput n s i .state)
 
--- ---- building, checksum octets, writing parts and pages: the lent buffer stays as it was
+-- ---- building, checksum octets, writing parts, pages and reports: the lent buffer stays as it was
 abbrev pub BuildingRefused : Type 0
 BuildingRefused = (k : Kind) (x : Fields) (buffer : List ℕ) (number : ℕ) → built k x buffer .0 ≡ outcome.refused number → built k x buffer .1 ≡ buffer
 
@@ -65,6 +66,10 @@ abbrev pub PageRefused : Type 0
 PageRefused =
     (serial identifier dcs : ℕ) (p : List ℕ) (which : ℕ) (buffer : List ℕ) (number : ℕ)
     → writePage serial identifier dcs p which buffer .answer ≡ outcome.refused number → writePage serial identifier dcs p which buffer .buffer ≡ buffer
+
+abbrev pub ReportRefused : Type 0
+ReportRefused =
+    (spi capacity : ℕ) (p buffer : List ℕ) (number : ℕ) → writeReport spi capacity p buffer .0 ≡ outcome.refused number → writeReport spi capacity p buffer .1 ≡ buffer
 
 -- ---- parsing: "with empty parts where parts are shown"
 pub record NothingShown (k : Kind) (c : Bool) (p : List ℕ) : Type 0 where
@@ -89,6 +94,8 @@ pub record UnfitRefused (n : ℕ) : Type 0 where
       → writeMessage k width reference p which buffer ≡ written (outcome.refused 1) buffer
   pub writing-a-page : (serial identifier dcs : ℕ) (p : List ℕ) (which : ℕ) (buffer : List ℕ) → (length buffer ≡ pageOctets → ⊥)
       → writePage serial identifier dcs p which buffer ≡ written (outcome.refused 1) buffer
+  pub writing-a-report : (spi capacity : ℕ) (p buffer : List ℕ) → (length buffer ≡ mostReport → ⊥)
+      → writeReport spi capacity p buffer ≡ reported (outcome.refused 1) buffer
   pub put : (o : List ℕ) (at : ℕ) (p : List ℕ) → length o < at + length p → (fitsAt o at p ≡ false) × (afterPut o at p ≡ o)
 
 -- ---- making a record

@@ -40,6 +40,9 @@ use Rattle.types.specs.declared.Taken.{Taken}
 use Rattle.series.specs.Taking as taking
 use Rattle.types.specs.declared.WrittenPart.{WrittenPart}
 use Rattle.split.specs.Splitting as split
+use Rattle.types.specs.declared.Spi.{Spi}
+use Rattle.types.specs.declared.Outgoing.{Outgoing}
+use Rattle.report.specs.Reporting as report
 
 -- whatever the rule says, two outcomes of which that is told are the same
 abbrev pub Tight : {Outcome Paper : Type 0} → (Outcome → Paper) → Type 0
@@ -52,6 +55,9 @@ toldBuilt (r, buffer) = lent (toldWritten r) buffer
 
 abbrev pub toldPart : WrittenPart × List ℕ → split.Written
 toldPart (r, buffer) = split.written (split.told r) buffer
+
+abbrev pub toldReport : Outgoing × List ℕ → report.Reported
+toldReport (r, buffer) = report.reported (report.toldOutgoing r) buffer
 
 -- how long a single packet is, if there is one, and the output as it is afterwards
 abbrev pub toldHanded : Size × List ℕ → Option ℕ × List ℕ
@@ -82,6 +88,8 @@ pub record Tellings : Type 0 where
   pub take-message-and-page : Tight toldTaken
   -- write_message, write_page
   pub write-message-and-page : Tight toldPart
+  -- write_report
+  pub write-report : Tight toldReport
   -- and of the calls between crates: judge, packet_size, hand_out; and of what walk answers, though its promise is the answer itself
   pub judge : Tight toldJudged
   pub walk : Tight toldWalked
@@ -150,3 +158,5 @@ pub record Promises : Type 0 where
       → One (λ (r : WrittenPart × List ℕ). toldPart r ≡ split.writeMessage k width reference p number out)
   pub write-page : (serial : SerialNumber) (identifier : MessageIdentifier) (dcs number : ℕ) (p out : List ℕ)
       → One (λ (r : WrittenPart × List ℕ). toldPart r ≡ split.writePage (serial .0) (identifier .0) dcs p number out)
+  -- reporting
+  pub write-report : (spi : Spi) (capacity : ℕ) (p out : List ℕ) → One (λ (r : Outgoing × List ℕ). toldReport r ≡ report.writeReport (spi .1) capacity p out)

@@ -1,0 +1,132 @@
+-- No case loses the response. What is in a report is what splitting writes of a packet that goes in one message, so it is read and handed out as
+-- such; and what follows is split. The announcement is built of the response's own fields.
+use Prim.Native.Nat.{ℕ, _%_, _≤_, _<_}
+use mathlib.Core.Path.{_≡_, refl, sym, ap, _∙_, subst}
+use mathlib.Core.Bool.{true, false, or-true}
+use mathlib.Core.List.{List, [], _∷_, _++_}
+use native.Mathlib.Omega.{arith}
+use lib.ListN.{length, getD, take, drop}
+use lib.Seq.{take-take, getD-take, getD-drop}
+use lib.Dec.{ltb}
+use borrow.Author.Tests.{eq-eqb, ne-eqb, lt-ltb, le-ltb}
+use Rattle.octets.specs.Octets.{Octets}
+use Rattle.types.specs.declared.Kind.the-variants.{Response}
+use Rattle.types.specs.declared.Tar.{Tar}
+use Rattle.types.specs.declared.PlainResponse.{PlainResponse}
+use Rattle.types.specs.declared.ResponseBody.the-variants as response
+use Rattle.types.specs.Refusals.{Outcome, gives}
+use Rattle.packet.specs.Packets.{mostOctets, wellFormed, plain, fieldsOf, measured, parsing, building, packetOf}
+use Rattle.packet.specs.Told.{responseFixed, responseFields}
+use Rattle.packet.specs.Laws.{formed-facts, readable-formed, built-formed, built-parsed}
+use Rattle.series.specs.Calls.{message}
+use Rattle.split.specs.Splitting as split
+use Rattle.split.specs.Laws.{one-part, part-whole}
+use Rattle.split.specs.ReadBack.{read-single}
+use Rattle.report.specs.Reporting.{Going, leastReport, mostReport, reportOf, statusOf, beforeStatus, announcing, goingOut, writesReport, writeReport, reporting}
+use Rattle.report.specs.Laws.{Asked, Unasked, Way, not-asked, for-submit, small, too-large, way-of, reporting-gives, announcing-octets, announcing-length}
+use Rattle.demands.specs.Reports.{ReportRefusals, ReadAlone, Follows, withStatus, Reaches, none-asked, carried, announces, parts-alone, NoneLost}
+use Rattle.demands.proofs.RoundTrips.{parsed-is-formed, builds-or-refuses}
+use Rattle.demands.proofs.Written.{done, and, small-octets, octets-small, append-small, take-small, drop-small}
+use Rattle.demands.specs.Runs.{Slots}
+use Rattle.demands.proofs.Delivery.{messages-delivered, messages-written}
+
+-- ---- when a call is refused
+pub report-refusals : (spi capacity : ℕ) (p buffer : List ℕ) → ReportRefusals spi capacity p buffer
+unfolding writeReport reporting
+report-refusals spi capacity p buffer = record {
+  one = λ n. rw (ne-eqb (length buffer) 140 n);
+  sixteen-below = λ l c. rw (eq-eqb (length buffer) 140 l, lt-ltb capacity 16 c);
+  sixteen-above = λ l c. rw (eq-eqb (length buffer) 140 l, lt-ltb 140 capacity c, or-true (ltb capacity 16));
+  nine = λ l a b f. rw (eq-eqb (length buffer) 140 l, le-ltb capacity 16 a, le-ltb 140 capacity b, f);
+  twelve = λ l a b f m. rw (eq-eqb (length buffer) 140 l, le-ltb capacity 16 a, le-ltb 140 capacity b, f, lt-ltb 2142 (length p) m);
+  seventeen = λ l a b f m e. rw (eq-eqb (length buffer) 140 l, le-ltb capacity 16 a, le-ltb 140 capacity b, f, le-ltb 2142 (length p) m, eq-eqb (spi % 4) 3 e);
+}
+
+-- ---- what is in a report
+-- a packet behind 02 71 00 is what splitting writes of it, whatever the width, reference and number
+as-split : (p : List ℕ) → length p ≤ split.mostSingle → split.userData Response 8 0 p 1 ≡ reportOf p
+unfolding split.userData
+as-split p l = rw (one-part 8 (length p) l, part-whole 8 p 1 l)
+
+module _ (n : ℕ) (pos : Slots n) (p : List ℕ) (octets : Octets p) (formed : wellFormed Response p ≡ true) where
+  read-alone : length p ≤ split.mostSingle → ReadAlone n (reportOf p) p
+  read-alone l =
+      let one = one-part 8 (length p) l in
+      record {
+        alone = λ sender. rw (← as-split p l) (read-single Response 8 0 p 1 sender one);
+        whole = refl;
+        handed-out = λ sender cells earlier size before c is.
+            messages-delivered n pos Response sender 8 0 p octets formed refl (omega arith) cells earlier size before .at-once one c
+            (is ∙ ap (message sender) (sym (as-split p l)));
+      }
+
+  follows : length p ≤ mostOctets → Follows n p
+  follows l = record {
+    narrow = l;
+    written = λ width reference. messages-written Response width reference p formed;
+    handed-out = λ sender width reference. messages-delivered n pos Response sender width reference p octets formed;
+  }
+
+-- ---- the announcement
+module _ (p : List ℕ) (t : Tar) (b : PlainResponse) (e : parsing Response false p ≡ gives (responseFields t (response.Plain b))) where
+  -- the response is well formed, and its fields are those that parsing answered
+  formed-size : (wellFormed Response p ≡ true) × (length p ≤ mostOctets)
+  formed-size = let (formed, size, checked) = parsed-is-formed Response false p (responseFields t (response.Plain b)) e in (formed, size)
+
+  fixed-is : take 10 (drop 3 p) ≡ responseFixed t (b .cntr) (b .pcntr) (b .status)
+  unfolding parsing
+  fixed-is =
+      let z : gives (measured (fieldsOf Response false p)) ≡ gives (responseFields t (response.Plain b)) =
+      sym (readable-formed Response false p (gives (measured (fieldsOf Response false p))) (formed-size .0) (formed-size .1) refl) ∙ e in
+      cc
+
+  status-is : statusOf p ≡ b .status
+  status-is =
+      sym (getD-take 10 (drop 3 p) 9 0 (omega arith) ∙ getD-drop 3 p 9 0) ∙ ap (λ (f : List ℕ). getD f 9 0) fixed-is
+
+  module _ (status : ℕ) where
+    new-fixed : beforeStatus p ++ (status ∷ []) ≡ responseFixed t (b .cntr) (b .pcntr) status
+    new-fixed = ap (λ (f : List ℕ). f ++ (status ∷ [])) (sym (take-take 9 10 (drop 3 p) (omega arith)) ∙ ap (take 9) fixed-is)
+
+    new-built : building Response (plain (responseFixed t (b .cntr) (b .pcntr) status) [] []) ≡ gives (announcing status p)
+    unfolding announcing packetOf
+    new-built = rw new-fixed (builds-or-refuses Response (plain (responseFixed t (b .cntr) (b .pcntr) status) [] []) .given refl refl refl (omega arith))
+
+    new-formed : wellFormed Response (announcing status p) ≡ true
+    new-formed = built-formed Response (plain (responseFixed t (b .cntr) (b .pcntr) status) [] []) (announcing status p) new-built refl .0
+
+    new-parsed : parsing Response false (announcing status p) ≡ gives (responseFields t (response.Plain (withStatus status b)))
+    new-parsed = built-parsed Response (plain (responseFixed t (b .cntr) (b .pcntr) status) [] []) (announcing status p) new-built refl
+
+    new-octets : Octets p → status < 256 → Octets (announcing status p)
+    new-octets octets l =
+        let f = formed-facts Response p (formed-size .0) in
+        subst Octets (sym (announcing-octets status p (omega arith)))
+        (small-octets (and 0x00 (omega arith) (and 0x0B (omega arith) (and 0x0A (omega arith)
+        (append-small (take-small 9 (drop-small 3 (octets-small p octets))) (and status l done))))))
+
+-- ---- none is lost
+module _ (n : ℕ) (pos : Slots n) (status : ℕ) (octet : status < 256) (spi capacity : ℕ) (p : List ℕ) (t : Tar) (b : PlainResponse) (buffer : List ℕ)
+    (octets : Octets p) (e : parsing Response false p ≡ gives (responseFields t (response.Plain b))) (least : leastReport ≤ capacity) (most : capacity ≤ mostReport) where
+  formed : (wellFormed Response p ≡ true) × (length p ≤ mostOctets)
+  formed = formed-size p t b e
+
+  each-way : (g : Going (List ℕ)) → Way status spi capacity p g → Reaches n status spi capacity p t b buffer (writesReport (gives g) buffer)
+  each-way g (not-asked a) = none-asked (subst (Unasked spi) (status-is p t b e) a)
+  each-way g (for-submit a s) = parts-alone (subst (Asked spi) (status-is p t b e) a) s (follows n pos p octets (formed .0) (formed .1))
+  each-way g (small a s l) =
+      carried (subst (Asked spi) (status-is p t b e) a) s (reportOf p) (omega arith) (read-alone n pos p octets (formed .0) (omega arith))
+  each-way g (too-large a s l) =
+      let f = formed-facts Response p (formed .0) in
+      let long : length (announcing status p) ≡ 13 = announcing-length status p (omega arith) in
+      announces (subst (Asked spi) (status-is p t b e) a) s l (reportOf (announcing status p)) (announcing status p) (omega arith)
+      (read-alone n pos (announcing status p) (new-octets p t b e status octets octet) (new-formed p t b e status) (omega arith))
+      (new-parsed p t b e status) (follows n pos p octets (formed .0) (formed .1))
+
+pub none-lost : (n : ℕ) → Slots n → NoneLost n
+unfolding writeReport
+none-lost n pos spi capacity p t b buffer octets e lent least most free =
+    let f = formed-size p t b e in
+    subst (λ (o : Outcome (Going (List ℕ))). Reaches n 0x0B spi capacity p t b buffer (writesReport o buffer))
+    (sym (reporting-gives 0x0B spi capacity p free (length buffer) lent least most (f .0) (f .1)))
+    (each-way n pos 0x0B (omega arith) spi capacity p t b buffer octets e least most (goingOut 0x0B spi capacity p) (way-of 0x0B spi capacity p free))
