@@ -6,6 +6,7 @@ use types::Clear;
 use types::CommandBody;
 use types::Kind;
 use types::Opaque;
+use types::Outgoing;
 use types::ParsedCommand;
 use types::ParsedResponse;
 use types::ResponseBody;
@@ -66,6 +67,14 @@ pub const CELLS: u64 = 3322259;
 pub const OUTPUT: u64 = 526009012;
 
 pub const BUFFER: u64 = 89331890;
+
+const NOTHING: u64 = 15556945351;
+
+const REPORT: u64 = 609762900;
+
+const ANNOUNCE: u64 = 49878317157;
+
+const SUBMIT: u64 = 659633460;
 
 // ---- rows
 // A name alone, and with one value.
@@ -214,6 +223,17 @@ pub fn written_part(w: WrittenPart) -> Row {
             values: [total as u64, length as u64, 0, 0, 0, 0, 0, 0],
         },
         WrittenPart::Refused(why) => refusal(why),
+    }
+}
+
+// What goes out: `nothing`, `report LENGTH OCTETS`, `announce LENGTH OCTETS`, `submit`.
+pub fn outgoing(o: Outgoing) -> Row {
+    match o {
+        Outgoing::Nothing => plain(NOTHING),
+        Outgoing::Report { length } => one(REPORT, 10, length as u64),
+        Outgoing::Announcement { length } => one(ANNOUNCE, 10, length as u64),
+        Outgoing::Submit => plain(SUBMIT),
+        Outgoing::Refused(why) => refusal(why),
     }
 }
 

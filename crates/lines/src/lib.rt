@@ -84,6 +84,9 @@ fn made(l: Line, fields: &[u8], out: &mut [u8]) -> Row {
         let w = build::build(l, fields, out);
         return rows::written(rows::PACKET, w);
     }
+    if l.row == table::REPORT {
+        return rows::outgoing(parts::report(l, fields, out));
+    }
     rows::written_part(parts::write(l, fields, out))
 }
 
@@ -105,7 +108,7 @@ pub fn answer_row(l: Line, fields: &[u8], row: Row, size: usize, buffer: &mut [u
     if l.row <= table::BUFFER {
         return asks::part(l);
     }
-    if table::READ_COMMAND <= l.row {
+    if (table::READ_COMMAND <= l.row) & (l.row <= table::READ_PAGE_RESPONSE) {
         return parts::arrival(l.row, fields);
     }
     make(l, fields, size, buffer)

@@ -1,4 +1,4 @@
-// Lines on arrivals and on splitting: what one message or page brings, and one part of a packet written.
+// Lines on arrivals, on splitting and on reports: what one message or page brings, one part of a packet written, and what goes out of a response.
 use crate::octet;
 use answers::rows;
 use skelmarix::number_of;
@@ -73,4 +73,11 @@ pub(crate) fn write(l: Line, fields: &[u8], out: &mut [u8]) -> WrittenPart {
         return write_page(narrow(l.values[3]), fields, out);
     }
     write_message(l, fields, out)
+}
+
+// What goes out of a response: SPI is the first two octets.
+pub(crate) fn report(l: Line, fields: &[u8], out: &mut [u8]) -> types::Outgoing {
+    let spi = types::Spi(octet(fields, 0), octet(fields, 1));
+    let capacity = narrow(l.values[1]) as usize;
+    skelmarix::write_report(spi, capacity, own_octets(fields, 2), out)
 }

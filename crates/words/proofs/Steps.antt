@@ -288,18 +288,18 @@ module _ (line : List ℕ) (from end : ℕ) (there : from < length line) where
 pub record Finding (key i : ℕ) : Type 0 where
   pub is : rowFrom key i (drop i keys) ≡ rowOf key
   pub past : 1 ≤ i
-  pub inside : i ≤ 51
+  pub inside : i ≤ 52
 
 module _ (key : ℕ) where
   pub find-none : Finding key 1
   find-none = record { is = refl; past = omega arith; inside = omega arith }
 
   module _ (i : ℕ) (u : Finding key i) where
-    pub find-out : 51 ≤ i → 0 ≡ rowOf key
+    pub find-out : 52 ≤ i → 0 ≡ rowOf key
     unfolding rowFrom
-    find-out l = let e : i ≡ 51 = omega (arith, u .inside) in subst (λ (k : ℕ). rowFrom key k (drop k keys) ≡ rowOf key) e (u .is)
+    find-out l = let e : i ≡ 52 = omega (arith, u .inside) in subst (λ (k : ℕ). rowFrom key k (drop k keys) ≡ rowOf key) e (u .is)
 
-    module _ (more : i < 51) where
+    module _ (more : i < 52) where
       next : rowFrom key i (drop i keys) ≡ cond (eqb (getD keys i 0) key) i (rowFrom key (i + 1) (drop (suc i) keys))
       unfolding rowFrom
       next = rw (drop-cons keys i 0 more)

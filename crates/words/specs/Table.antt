@@ -120,6 +120,7 @@ rows =
     row 47 "command" any ∷
     row 47 "response" any ∷
     row 0 "slots" octet ∷
+    row 0 "report" (octets 2 then number then any) ∷
     []
 
 -- the key of a name behind an earlier row

@@ -6,7 +6,7 @@ ghost use lib.ListN.{getD};
 ghost use Rattle.words.specs.Table.{keys, rowOf, allSorts, mostOf};
 
 // How many rows there are; row 0 is where a line begins, and stands for none.
-const ROWS: usize = 51;
+const ROWS: usize = 52;
 
 // The rows that lines are told apart by.
 pub const MESSAGE: usize = 1;
@@ -61,6 +61,8 @@ pub const READ_PAGE_RESPONSE: usize = 49;
 
 pub const SLOTS: usize = 50;
 
+pub const REPORT: usize = 51;
+
 // The key of each row: its earlier row and its name.
 const KEYS: [u64; ROWS] = [
     0,
@@ -114,6 +116,7 @@ const KEYS: [u64; ROWS] = [
     51680785106372,
     52301545323109,
     20332179,
+    609762900,
 ];
 
 // The sorts of the words that follow, four bits each, the first lowest.
@@ -169,6 +172,7 @@ const SORTS: [u64; ROWS] = [
     0x8,
     0x8,
     0x5,
+    0x82A,
 ];
 
 // The greatest number of each sort.
@@ -184,7 +188,7 @@ const MOSTS: [u64; 8] = [
 ];
 
 fn key_at(i: usize) -> u64
-    requires { ⌜ i < 51 ⌝ }
+    requires { ⌜ i < 52 ⌝ }
     ensures { λ r. ⌜ r ≡ getD keys i 0 ⌝ }
 {
     KEYS[i]
@@ -192,7 +196,7 @@ fn key_at(i: usize) -> u64
 
 // The row of a key; 0 if there is none.
 pub(crate) fn find(key: u64) -> usize
-    ensures { λ r. ⌜ (r ≡ rowOf key) × (r < 51) ⌝ }
+    ensures { λ r. ⌜ (r ≡ rowOf key) × (r < 52) ⌝ }
 {
     let mut i = 1;
     while i < ROWS {
@@ -206,7 +210,7 @@ pub(crate) fn find(key: u64) -> usize
 
 // The sorts of the words behind a row.
 pub(crate) fn sorts_of(row: usize) -> u64
-    requires { ⌜ row < 51 ⌝ }
+    requires { ⌜ row < 52 ⌝ }
     ensures { λ r. ⌜ r ≡ getD allSorts row 0 ⌝ }
 {
     SORTS[row]
