@@ -5,10 +5,10 @@
 #include <string.h>
 #include "calls.h"
 
-enum { SLOT = 2144, CELLS = 5 * SLOT, MOST = 2142, PAGED = 1230, SMALL = 52, UD = 140, PAGE = 88, SUM = 2145, PAINTED = 16384 };
+enum { SLOT = 2144, CELLS = 5 * SLOT, MOST = 2142, PAGED = 1230, SMALL = 52, WHOLE = 137, UD = 140, PAGE = 88, SUM = 2145, PAINTED = 16384 };
 
 static uint8_t cells[CELLS], out[MOST], ud[UD], page[PAGE], sum[SUM];
-static uint8_t packet[MOST], paged[PAGED], small[SMALL], response[MOST];
+static uint8_t packet[MOST], paged[PAGED], small[SMALL], response[MOST], whole[WHOLE];
 static Record record;
 static Taken taken;
 static size_t length;
@@ -83,6 +83,8 @@ static void sum_command(void) { length = cost_command_checksum(packet, MOST, sum
 static void sum_response(void) { length = cost_response_checksum(response, MOST, sum, SUM); }
 static void write_message(void) { length = cost_write_message(0, 8, 7, 2, packet, MOST, ud, UD); }
 static void write_page(void) { length = cost_write_page(7, 0x1080, 0, 2, paged, PAGED, page, PAGE); }
+static void report_whole(void) { length = cost_write_report(1, UD, whole, WHOLE, ud, UD); }
+static void report_announced(void) { length = cost_write_report(1, UD, response, MOST, ud, UD); }
 static void build_ciphered_command(void) { length = cost_build_ciphered_command(21, packet, 2132, out, MOST); }
 static void build_ciphered_response(void) { length = cost_build_ciphered_response(18, packet, 2136, out, MOST); }
 static void command_check(void) { length = cost_command_check(packet, MOST); }
@@ -113,7 +115,7 @@ static void stated(uint8_t *p, const uint8_t *from, size_t n, uint8_t header) {
 static void fill(void) {
     for (int i = 0; i < MOST; i++) packet[i] = (uint8_t)(i * 7 + 3);
     packet[3] = 0x12;
-    stated(packet, packet, MOST, 21), stated(paged, packet, PAGED, 21), stated(small, packet, SMALL, 21), stated(response, packet, MOST, 18);
+    stated(packet, packet, MOST, 21), stated(paged, packet, PAGED, 21), stated(small, packet, SMALL, 21), stated(response, packet, MOST, 18), stated(whole, packet, WHOLE, 18);
 }
 
 static void part(uint32_t reference, uint32_t number) { length = cost_write_message(0, 8, reference, number, packet, MOST, ud, UD); }
@@ -216,6 +218,8 @@ static void packets(void) {
     gives("packet_formed", packet_formed, 1);
     gives("write_message, part 2 of 16", write_message, UD);
     gives("write_page, page 2 of 15", write_page, PAGE);
+    gives("write_report, 137 octets in the report", report_whole, UD);
+    gives("write_report, 2,142 octets announced", report_announced, 16);
 }
 
 static void octets(void) {
