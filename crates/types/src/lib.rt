@@ -49,6 +49,8 @@ pub enum Refusal {
     ReportCapacity,
     // 17: the reserved value 11 in the low two bits of SPI's second octet. Reporting.
     ReservedSpi,
+    // 20: an edition that is neither the old nor the present one. Reporting.
+    UnknownEdition,
     // 25: a record asked for with no slots, or with more than five. Making a record.
     SlotNumber,
 }
@@ -76,6 +78,7 @@ impl Refusal {
             Refusal::CheckMismatch => 15,
             Refusal::ReportCapacity => 16,
             Refusal::ReservedSpi => 17,
+            Refusal::UnknownEdition => 20,
             Refusal::SlotNumber => 25,
         }
     }
@@ -277,6 +280,18 @@ pub enum Outgoing {
     Report { length: usize },
     Announcement { length: usize },
     Submit,
+    Refused(Refusal),
+}
+
+// The editions of the text that a card follows: they differ in the status that announces a response.
+pub const OLD_EDITION: u32 = 0;
+
+pub const PRESENT_EDITION: u32 = 1;
+
+// Whether a response only says that another follows.
+pub enum Announcing {
+    Yes,
+    No,
     Refused(Refusal),
 }
 
