@@ -17,8 +17,9 @@ use Rattle.packet.specs.declared.read.Judged.{Judged}
 use Rattle.packet.specs.declared.read.Judged.the-variants as judged
 use Rattle.types.specs.Refusals.{refused, gives, refuse_when_otherwise_, refusalNumber}
 use Rattle.packet.specs.Packets.{chl, readable}
+use Rattle.packet.specs.Laws.{PacketLengths}
 use Rattle.packet.specs.Judging.{toldJudged, judged-formed, judged-size, judged-readable, judged-refused}
-use Rattle.report.specs.Reporting.{nothingGoes, inReport, announced, submitted, asked, reserved, noCapacity, reportOf, beforeStatus, announcing, goingOut, reporting, Reported, reported, writesReport, writeReport, responseFollows}
+use Rattle.report.specs.Reporting.{nothingGoes, inReport, announced, submitted, asked, reserved, noCapacity, reportOf, beforeStatus, announcing, goingOut, reporting, Reported, reported, writesReport, writeReport, knownEdition, announcedBy, announcesAnother, responseAnnounces}
 use Rattle.report.specs.Laws.{announcing-octets, announcing-length}
 
 -- ---- writing
@@ -77,14 +78,21 @@ module _ (status spi capacity : ℕ) (p d : List ℕ) where
             rw (ne-eqb (spi % 4) 3 n, ← e, not-false a t, ne-eqb (spi / 32 % 2) 1 s, lt-leb (length (reportOf p)) capacity (omega arith), w .0, w .1)
             (ap (reported (gives (announced (length (reportOf (announcing status p)))))) (placed-start d (reportOf (announcing status p))))
 
+-- ---- the edition
+pub edition-old : (edition : ℕ) → edition ≡ 0 → 0x08 ≡ announcedBy edition
+edition-old edition e = rw (eq-eqb edition 0 e)
+
+pub edition-other : (edition : ℕ) → (edition ≡ 0 → ⊥) → 0x0B ≡ announcedBy edition
+edition-other edition n = rw (ne-eqb edition 0 n)
+
 -- ---- the answer
-module _ (spi capacity : ℕ) (p d : List ℕ) where
-  pub report-buffer : (length d ≡ 140 → ⊥) → reported (refused 1) d ≡ writeReport spi capacity p d
+module _ (edition spi capacity : ℕ) (p d : List ℕ) where
+  pub report-buffer : (length d ≡ 140 → ⊥) → reported (refused 1) d ≡ writeReport edition spi capacity p d
   unfolding writeReport reporting
   report-buffer n = rw (ne-eqb (length d) 140 n)
 
   module _ (l : length d ≡ 140) (c : Bool) (f : c ≡ noCapacity capacity) where
-    pub report-capacity : c ≡ true → reported (refused 16) d ≡ writeReport spi capacity p d
+    pub report-capacity : c ≡ true → reported (refused 16) d ≡ writeReport edition spi capacity p d
     unfolding writeReport reporting
     report-capacity t = rw (eq-eqb (length d) 140 l, ← f, t)
 
@@ -92,15 +100,34 @@ module _ (spi capacity : ℕ) (p d : List ℕ) where
       pub capacity-most : capacity ≤ 140
       capacity-most = ltb-false 140 capacity (neither (ltb capacity 16) (ltb 140 capacity) (sym f ∙ t) .1)
 
-      module _ (j : Judged) (e : toldJudged j ≡ readable Response false p (gives (chl p))) where
-        pub report-refused : (r : Refusal) → j ≡ judged.Refused r → reported (refused (refusalNumber r)) d ≡ writeReport spi capacity p d
+      module _ (k : Bool) (g : k ≡ knownEdition edition) where
+        pub report-edition : not k ≡ true → reported (refused 20) d ≡ writeReport edition spi capacity p d
         unfolding writeReport reporting
-        report-refused r u = rw (eq-eqb (length d) 140 l, ← f, t, ← judged-refused Response false p j e r u)
+        report-edition u = rw (eq-eqb (length d) 140 l, ← f, t, ← g, not-true k u)
 
-        pub report-sent : (h : ℕ) → j ≡ judged.Readable h → (w : Reported)
-            → w ≡ writesReport (refuse 17 when reserved spi otherwise gives (goingOut responseFollows spi capacity p)) d → w ≡ writeReport spi capacity p d
-        unfolding writeReport reporting
-        report-sent h u w g = rw (eq-eqb (length d) 140 l, ← f, t, ← judged-readable Response false p j e h u) g
+        module _ (u : not k ≡ false) (j : Judged) (e : toldJudged j ≡ readable Response false p (gives (chl p))) where
+          pub report-refused : (r : Refusal) → j ≡ judged.Refused r → reported (refused (refusalNumber r)) d ≡ writeReport edition spi capacity p d
+          unfolding writeReport reporting
+          report-refused r v = rw (eq-eqb (length d) 140 l, ← f, t, ← g, not-false k u, ← judged-refused Response false p j e r v)
+
+          pub report-sent : (h : ℕ) → j ≡ judged.Readable h → (status : ℕ) → status ≡ announcedBy edition → (w : Reported)
+              → w ≡ writesReport (refuse 17 when reserved spi otherwise gives (goingOut status spi capacity p)) d → w ≡ writeReport edition spi capacity p d
+          unfolding writeReport reporting
+          report-sent h v status s w i =
+              rw (eq-eqb (length d) 140 l, ← f, t, ← g, not-false k u, ← s, ← judged-readable Response false p j e h v) i
+
+-- ---- the receiver
+module _ (p : List ℕ) (j : Judged) (e : toldJudged j ≡ readable Response false p (gives (chl p))) where
+  pub announces-refused : (r : Refusal) → j ≡ judged.Refused r → refused (refusalNumber r) ≡ responseAnnounces p
+  unfolding responseAnnounces
+  announces-refused r t = judged-refused Response false p j e r t (gives (announcesAnother (getD p 12 0)))
+
+  pub status-inside : (h : ℕ) → j ≡ judged.Readable h → 12 < length p
+  status-inside h t = let f : PacketLengths Response p = judged-formed Response false p j e h t in omega arith
+
+  pub announces-told : (h : ℕ) → j ≡ judged.Readable h → (a b : Bool) → a ≡ announcesAnother (getD p 12 0) → a ≡ b → gives b ≡ responseAnnounces p
+  unfolding responseAnnounces
+  announces-told h t a b f g = rw (← f, g) (judged-readable Response false p j e h t (gives b))
 
 pub ruleset steps = (
   needs,
@@ -117,6 +144,12 @@ pub ruleset steps = (
   report-buffer,
   report-capacity,
   capacity-most,
+  edition-old,
+  edition-other,
+  report-edition,
   report-refused,
   report-sent,
+  announces-refused,
+  status-inside,
+  announces-told,
 )

@@ -11,7 +11,7 @@ use Rattle.types.specs.declared.Kind.the-variants.{Response}
 use Rattle.types.specs.Refusals.{gives}
 use Rattle.packet.specs.Packets.{mostOctets, wellFormed, packetOf}
 use Rattle.packet.specs.Laws.{readable-formed}
-use Rattle.report.specs.Reporting.{Going, nothingGoes, inReport, announced, submitted, asked, bySubmit, leastReport, mostReport, reportOf, statusOf, beforeStatus, announcing, goingOut, reporting}
+use Rattle.report.specs.Reporting.{Going, nothingGoes, inReport, announced, submitted, asked, bySubmit, leastReport, mostReport, reportOf, statusOf, beforeStatus, announcing, goingOut, knownEdition, announcedBy, reporting}
 
 -- ---- the announcement
 -- 00 0B 0A TAR CNTR PCNTR and the status: thirteen octets, with the header sixteen
@@ -84,9 +84,10 @@ module _ (status spi capacity : ℕ) (p : List ℕ) (free : spi % 4 ≡ 3 → �
           too-large (is-asked spi (statusOf p) e) (even (eqb-false (spi / 32 % 2) 1 f)) (omega (arith, leb-false (length (reportOf p)) capacity g))
 
   -- nothing is refused that is within its bounds
-  pub reporting-gives : (size : ℕ) → size ≡ mostReport → leastReport ≤ capacity → capacity ≤ mostReport → wellFormed Response p ≡ true → length p ≤ mostOctets
-      → reporting status spi capacity p size ≡ gives (goingOut status spi capacity p)
+  pub reporting-gives : (edition size : ℕ) → knownEdition edition ≡ true → announcedBy edition ≡ status → size ≡ mostReport → leastReport ≤ capacity
+      → capacity ≤ mostReport → wellFormed Response p ≡ true → length p ≤ mostOctets
+      → reporting edition spi capacity p size ≡ gives (goingOut status spi capacity p)
   unfolding reporting
-  reporting-gives size lent least most formed short =
-      rw (eq-eqb size mostReport lent, le-ltb capacity leastReport least, le-ltb mostReport capacity most, ne-eqb (spi % 4) 3 free)
+  reporting-gives edition size known by lent least most formed short =
+      rw (eq-eqb size mostReport lent, le-ltb capacity leastReport least, le-ltb mostReport capacity most, known, by, ne-eqb (spi % 4) 3 free)
       (readable-formed Response false p (gives (goingOut status spi capacity p)) formed short refl)

@@ -1,12 +1,13 @@
--- Report first, data afterwards (02, [1]; 000, 4.1): "given a command's SPI, a complete plain response and the report's capacity in octets ..,
+-- Report first, data afterwards (02, [1] and [12]; 000, 4.1; 003): "given a command's SPI, a complete plain response and the report's capacity in octets ..,
 -- say what goes out". The response is read as a plain one: a ciphered one that is handed in is taken for plain.
 use Prim.Native.Nat.{ℕ, _/_, _%_}
-use mathlib.Core.Bool.{Bool, not, cond, _&&_, _||_}
+use mathlib.Core.Bool.{Bool, true, false, not, cond, _&&_, _||_}
 use mathlib.Core.List.{List, [], _∷_, _++_}
 use lib.ListN.{length, getD, take, drop}
 use lib.Dec.{eqb, ltb, leb}
 use Rattle.types.specs.declared.Kind.the-variants.{Response}
-use Rattle.types.specs.declared.Outgoing as declared
+use Rattle.types.specs.declared.Outgoing as outgoing
+use Rattle.types.specs.declared.Announcing as announcing-type
 use Rattle.types.specs.Refusals.{Outcome, refused, gives, refuse_when_otherwise_, refusalNumber}
 use Rattle.packet.specs.Packets.{plain, readable, packetOf}
 
@@ -55,9 +56,6 @@ abbrev pub beforeStatus : List ℕ → List ℕ
 beforeStatus p = take 9 (drop 3 p)
 
 -- "a response with the same TAR, CNTR and PCNTR, status 0B, no check field and no data"
-abbrev pub responseFollows : ℕ
-responseFollows = 0x0B
-
 unfoldable pub announcing : ℕ → List ℕ → List ℕ
 announcing status p = packetOf Response (plain (beforeStatus p ++ (status ∷ [])) [] [])
 
@@ -70,14 +68,36 @@ goingOut status spi capacity p =
     (cond (leb (length (reportOf p)) capacity) (inReport (reportOf p))
     (announced (reportOf (announcing status p)))))
 
--- ---- "Refusals: 16 for a capacity outside 16 to 140, 17 for the reserved value; order 1, 16, 9, 12, 17."
+-- ---- the edition
+-- "announced by "more time", 08 in TS 102 225, not 0B"
+abbrev pub moreTime : ℕ
+moreTime = 0x08
+
+abbrev pub responseFollows : ℕ
+responseFollows = 0x0B
+
+-- "a choice of edition, old or present; it changes that one octet"
+abbrev pub oldEdition : ℕ
+oldEdition = 0
+
+abbrev pub presentEdition : ℕ
+presentEdition = 1
+
+abbrev pub knownEdition : ℕ → Bool
+knownEdition edition = eqb edition oldEdition || eqb edition presentEdition
+
+abbrev pub announcedBy : ℕ → ℕ
+announcedBy edition = cond (eqb edition oldEdition) moreTime responseFollows
+
+-- ---- "Refusals: 16 for a capacity outside 16 to 140, 17 for the reserved value; order 1, 16, 9, 12, 17."; "20 for an unknown edition, after 16."
 unfoldable pub reporting : ℕ → ℕ → ℕ → List ℕ → ℕ → Outcome (Going (List ℕ))
-reporting status spi capacity p size =
+reporting edition spi capacity p size =
     refuse 1 when not (eqb size mostReport) otherwise
     refuse 16 when noCapacity capacity otherwise
+    refuse 20 when not (knownEdition edition) otherwise
     readable Response false p
     (refuse 17 when reserved spi otherwise
-    gives (goingOut status spi capacity p))
+    gives (goingOut (announcedBy edition) spi capacity p))
 
 -- ---- the call
 -- "written at the start of a lent 140 octets whose rest stays; nothing else is written": the answer, and the lent buffer afterwards
@@ -94,13 +114,26 @@ writesReport (gives (inReport o)) buffer = (gives (inReport (length o)), o ++ dr
 writesReport (gives (announced o)) buffer = (gives (announced (length o)), o ++ drop (length o) buffer)
 writesReport (gives submitted) buffer = (gives submitted, buffer)
 
-unfoldable pub writeReport : ℕ → ℕ → List ℕ → List ℕ → Reported
-writeReport spi capacity p buffer = writesReport (reporting responseFollows spi capacity p (length buffer)) buffer
+unfoldable pub writeReport : ℕ → ℕ → ℕ → List ℕ → List ℕ → Reported
+writeReport edition spi capacity p buffer = writesReport (reporting edition spi capacity p (length buffer)) buffer
 
 -- what the enum of the answer says
-abbrev pub toldOutgoing : declared.Outgoing → Outcome (Going ℕ)
-toldOutgoing declared.the-variants.Nothing = gives nothingGoes
-toldOutgoing (declared.the-variants.Report n) = gives (inReport n)
-toldOutgoing (declared.the-variants.Announcement n) = gives (announced n)
-toldOutgoing declared.the-variants.Submit = gives submitted
-toldOutgoing (declared.the-variants.Refused r) = refused (refusalNumber r)
+abbrev pub toldOutgoing : outgoing.Outgoing → Outcome (Going ℕ)
+toldOutgoing outgoing.the-variants.Nothing = gives nothingGoes
+toldOutgoing (outgoing.the-variants.Report n) = gives (inReport n)
+toldOutgoing (outgoing.the-variants.Announcement n) = gives (announced n)
+toldOutgoing outgoing.the-variants.Submit = gives submitted
+toldOutgoing (outgoing.the-variants.Refused r) = refused (refusalNumber r)
+
+-- ---- the receiver
+-- "A server accepts either": whether a plain response says that another follows, by its status; 9 and 12 as in parsing
+abbrev pub announcesAnother : ℕ → Bool
+announcesAnother status = eqb status responseFollows || eqb status moreTime
+
+unfoldable pub responseAnnounces : List ℕ → Outcome Bool
+responseAnnounces p = readable Response false p (gives (announcesAnother (statusOf p)))
+
+abbrev pub toldAnnouncing : announcing-type.Announcing → Outcome Bool
+toldAnnouncing announcing-type.the-variants.Yes = gives true
+toldAnnouncing announcing-type.the-variants.No = gives false
+toldAnnouncing (announcing-type.the-variants.Refused r) = refused (refusalNumber r)
