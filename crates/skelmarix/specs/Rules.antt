@@ -6,5 +6,5 @@ pub use Rattle.series.specs.Cells.{cellsSize}
 pub use Rattle.slots.specs.Slots.{mostSlots, defaultSlots, isSlotNumber, slotAt, freshRecord, withSlots, Beside, beside, toldMaking, making}
 pub use Rattle.series.specs.Taking.{State, state, Answer, After, after, toldAnswer}
 unfoldable pub use Rattle.series.specs.Taking.{takeMessage, takePage}
-pub use Rattle.report.specs.Reporting.{Going, nothingGoes, inReport, announced, submitted, Reported, reported, toldOutgoing}
-unfoldable pub use Rattle.report.specs.Reporting.{writeReport}
+pub use Rattle.report.specs.Reporting.{Going, nothingGoes, inReport, announced, submitted, Reported, reported, toldOutgoing, announcesAnother, toldAnnouncing}
+unfoldable pub use Rattle.report.specs.Reporting.{writeReport, responseAnnounces}

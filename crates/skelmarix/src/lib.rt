@@ -75,9 +75,13 @@ pub use split::write_message;
 pub use split::write_page;
 pub use types::WrittenPart;
 
-// Reporting: what goes out of a response, and the delivery report.
+// Reporting: what goes out of a response, the delivery report, the editions, and whether a response says that another follows.
+pub use report::response_announces;
 pub use report::write_report;
+pub use types::Announcing;
+pub use types::OLD_EDITION;
 pub use types::Outgoing;
+pub use types::PRESENT_EDITION;
 
 // Octets: the first of a slice, some put into a buffer, two slices compared, a number as the pair that is on the air.
 pub use octets::number_of;
