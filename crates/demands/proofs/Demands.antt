@@ -23,6 +23,7 @@ demand-1 = record {
   writing-user-data = refusing.writing-refused;
   writing-a-page = refusing.page-refused;
   writing-a-report = refusing.report-refused;
+  announcing = refusing.announcing-refused;
   unfit = refusing.unfit-refused;
   making-a-record = refusing.making-refused;
 }
@@ -55,6 +56,9 @@ demand-2 = record {
   last-replaces = twice.last-replaces;
   none-lost = reports.none-lost;
   report-refusals = reports.report-refusals;
+  none-lost-either = reports.none-lost-either;
+  editions-alike = reports.editions-alike;
+  either-accepted = reports.either-accepted;
 }
 
 pub demand-3 : (n : ℕ) → Slots n → Demand3 n

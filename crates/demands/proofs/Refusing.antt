@@ -10,6 +10,7 @@ use lib.Dec.{eqb, ltb}
 use borrow.Author.Tests.{not-false, eqb-true, eq-eqb, ne-eqb, lt-leb}
 use Rattle.octets.specs.Tests.{neither, both}
 use Rattle.types.specs.declared.Kind.{Kind}
+use Rattle.types.specs.declared.Kind.the-variants.{Response}
 use Rattle.types.specs.Refusals as outcome
 use Rattle.types.specs.Refusals.{refuse_when_otherwise_}
 use Rattle.packet.specs.Packets.{wellFormed, mostOctets, mostChecksum, into, building, built, checksumOctets, checksummed, parsing, againstCheck, readable, shown, securedOf, checkOf, opaqueOf, fieldsOf, measured, shownData, shownCheck, shownOpaque}
@@ -28,7 +29,7 @@ use Rattle.series.specs.CaseLaws.{Case, other-total, other-octets, again, last,
 use Rattle.series.specs.Calls.{Input, octetsOf, read, takeInput}
 use Rattle.split.specs.Splitting as split
 use Rattle.report.specs.Reporting as report
-use Rattle.demands.specs.Refusing.{Leaves, unaltered, dropped, TakingRefused, BuildingRefused, ChecksumRefused, WritingRefused, PageRefused, ReportRefused, ParsingRefused, UnfitRefused, MakingRefused}
+use Rattle.demands.specs.Refusing.{Leaves, unaltered, dropped, TakingRefused, BuildingRefused, ChecksumRefused, WritingRefused, PageRefused, ReportRefused, ParsingRefused, AnnouncingRefused, UnfitRefused, MakingRefused}
 use Rattle.demands.specs.Runs.{Slots}
 use Rattle.demands.proofs.Calls.{isPage, taking-any}
 
@@ -130,7 +131,7 @@ report-left (outcome.gives (report.announced o)) buffer number e = let z : _≡_
 
 pub report-refused : ReportRefused
 unfolding report.writeReport
-report-refused spi capacity p buffer = report-left (report.reporting report.responseFollows spi capacity p (length buffer)) buffer
+report-refused edition spi capacity p buffer = report-left (report.reporting edition spi capacity p (length buffer)) buffer
 
 -- ---- parsing
 nothing : {A : Type 0} (number : ℕ) (x : A) (y : List ℕ) (a b c : Bool)
@@ -152,6 +153,17 @@ parsing-refused k c p number e = record {
     none : (y : List ℕ) → shown (readable k c p (outcome.gives y)) ≡ []
     none y = nothing number (measured (fieldsOf k c p)) y (not (wellFormed k p)) (ltb mostOctets (length p)) (againstCheck k (fieldsOf k c p)) e
 
+still-refused : {A B : Type 0} (number : ℕ) (x : A) (y : B) (a b : Bool) → (refuse 9 when a otherwise refuse 12 when b otherwise outcome.gives x) ≡ outcome.refused number
+    → (refuse 9 when a otherwise refuse 12 when b otherwise outcome.gives y) ≡ outcome.refused number
+still-refused number x y true b e = cc
+still-refused number x y false true e = cc
+still-refused number x y false false e = let z : _≡_ {A = ℕ} 0 1 = cc in absurd (omega arith)
+
+pub announcing-refused : AnnouncingRefused
+unfolding parsing report.responseAnnounces
+announcing-refused p number =
+    still-refused number (measured (fieldsOf Response false p)) (report.announcesAnother (report.statusOf p)) (not (wellFormed Response p)) (ltb mostOctets (length p))
+
 -- ---- bad buffers and records
 unfit-taken : (n : ℕ) (s : State) (i : Input) → unfit n s ≡ true → takeInput n s i ≡ (refuse) 1 s
 unfit-taken n s i e = taking-any n s i ∙ rw e
@@ -169,7 +181,7 @@ unfit-refused n = record {
   checksum-octets = λ k c p buffer. unfit-into mostChecksum (checksumOctets k c p) buffer;
   writing-user-data = λ k width reference p which buffer ne. rw (ne-eqb (length buffer) mostUserData ne);
   writing-a-page = λ serial identifier dcs p which buffer ne. rw (ne-eqb (length buffer) pageOctets ne);
-  writing-a-report = λ spi capacity p buffer ne. rw (ne-eqb (length buffer) report.mostReport ne);
+  writing-a-report = λ edition spi capacity p buffer ne. rw (ne-eqb (length buffer) report.mostReport ne);
   put = λ o at p l. (lt-leb (at + length p) (length o) l, rw (lt-leb (at + length p) (length o) l));
 }
 

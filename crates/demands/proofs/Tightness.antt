@@ -1,7 +1,7 @@
 -- Each promise is tight: the outcome can be read back from what is told of it.
 use Prim.Native.Nat.{ℕ, _+_, _-_}
 use mathlib.Core.Path.{_≡_, refl, sym, ap, _∙_}
-use mathlib.Core.Bool.{Bool, cond}
+use mathlib.Core.Bool.{Bool, true, false, cond}
 use mathlib.Core.List.{List, [], _∷_}
 use mathlib.Core.Option.{Option, none, some}
 use lib.ListN.{getD}
@@ -11,7 +11,7 @@ use Rattle.octets.specs.Octets as octets
 use Rattle.octets.specs.Given as given
 use Rattle.types.specs.declared.Kind.the-variants.{Command, Response}
 use Rattle.types.specs.declared.Refusal.{Refusal}
-use Rattle.types.specs.declared.Refusal.the-variants.{BufferOrRecord, InputLength, HeaderOverrun, HeaderElement, WrongIdentifier, TooManyParts, OtherTotal, OtherOctets, MalformedPacket, CipherMismatch, PacketHeader, PacketTooLong, ReferenceWidth, PartNumber, CheckMismatch, ReportCapacity, ReservedSpi, SlotNumber}
+use Rattle.types.specs.declared.Refusal.the-variants.{BufferOrRecord, InputLength, HeaderOverrun, HeaderElement, WrongIdentifier, TooManyParts, OtherTotal, OtherOctets, MalformedPacket, CipherMismatch, PacketHeader, PacketTooLong, ReferenceWidth, PartNumber, CheckMismatch, ReportCapacity, ReservedSpi, UnknownEdition, SlotNumber}
 use Rattle.types.specs.declared.Tar.{Tar}
 use Rattle.types.specs.declared.Cntr.{Cntr}
 use Rattle.types.specs.declared.Clear.{Clear}
@@ -54,6 +54,8 @@ use Rattle.types.specs.declared.WrittenPart.the-variants as writtenPart
 use Rattle.split.specs.Splitting as split
 use Rattle.types.specs.declared.Outgoing.{Outgoing}
 use Rattle.types.specs.declared.Outgoing.the-variants as outgoing
+use Rattle.types.specs.declared.Announcing.{Announcing}
+use Rattle.types.specs.declared.Announcing.the-variants as announcing
 use Rattle.report.specs.Reporting as report
 use Rattle.demands.specs.Tightness.{Tight, toldBuilt, toldMade, toldPart, toldReport, toldHanded, toldTaken, Tellings, PlainPromises, One, Promises}
 
@@ -66,9 +68,10 @@ tight told back recovers rule r₁ r₂ e₁ e₂ = sym (recovers r₁) ∙ ap b
 refusalOf : ℕ → Refusal
 refusalOf n =
     cond (eqb n 25) SlotNumber
+    (cond (eqb n 20) UnknownEdition
     (getD
     (BufferOrRecord ∷ InputLength ∷ HeaderOverrun ∷ HeaderElement ∷ WrongIdentifier ∷ TooManyParts ∷ OtherTotal ∷ OtherOctets ∷ MalformedPacket ∷ CipherMismatch ∷ PacketHeader ∷ PacketTooLong ∷ ReferenceWidth ∷ PartNumber ∷ CheckMismatch ∷ ReportCapacity ∷ ReservedSpi ∷ [])
-    (n - 1) BufferOrRecord)
+    (n - 1) BufferOrRecord))
 
 refusal-back : (r : Refusal) → refusalOf (refusalNumber r) ≡ r
 unfolding refusalOf
@@ -89,6 +92,7 @@ refusal-back PartNumber = refl
 refusal-back CheckMismatch = refl
 refusal-back ReportCapacity = refl
 refusal-back ReservedSpi = refl
+refusal-back UnknownEdition = refl
 refusal-back SlotNumber = refl
 
 -- ---- parsed packets
@@ -170,6 +174,17 @@ report-back (outgoing.Report m, b) = refl
 report-back (outgoing.Announcement m, b) = refl
 report-back (outgoing.Submit, b) = refl
 report-back (outgoing.Refused r, b) = ap (λ (x : Refusal). (outgoing.Refused x, b)) (refusal-back r)
+
+announcingOf : Outcome Bool → Announcing
+announcingOf (refused n) = announcing.Refused (refusalOf n)
+announcingOf (gives true) = announcing.Yes
+announcingOf (gives false) = announcing.No
+
+announcing-back : (r : Announcing) → announcingOf (report.toldAnnouncing r) ≡ r
+unfolding announcingOf
+announcing-back announcing.Yes = refl
+announcing-back announcing.No = refl
+announcing-back (announcing.Refused r) = ap announcing.Refused (refusal-back r)
 
 -- ---- what reading and taking leave
 arrivalOf : Outcome Brought → Arrival
@@ -266,6 +281,7 @@ tellings = record {
   take-message-and-page = tight toldTaken takenOf taken-back;
   write-message-and-page = tight toldPart partOf part-back;
   write-report = tight toldReport reportOf report-back;
+  response-announces = tight report.toldAnnouncing announcingOf announcing-back;
   judge = tight toldJudged judgedOf judged-back;
   walk = tight toldWalked walkedOf walked-back;
   packet-size = tight toldSize sizeOf size-back;
@@ -316,7 +332,8 @@ promises = record {
   take-page = λ x page cells out. tellings .take-message-and-page _;
   write-message = λ k width reference number p out. tellings .write-message-and-page _;
   write-page = λ serial identifier dcs number p out. tellings .write-message-and-page _;
-  write-report = λ spi capacity p out. tellings .write-report _;
+  write-report = λ spi capacity edition p out. tellings .write-report _;
+  response-announces = λ p. tellings .response-announces _;
 }
   where
     put-one : {r₁ r₂ : Bool × List ℕ} → r₁ .0 ≡ r₂ .0 → r₁ .1 ≡ r₂ .1 → r₁ ≡ r₂

@@ -5,7 +5,7 @@ use mathlib.Core.List.{List}
 use Rattle.types.specs.declared.Kind.{Kind}
 use Rattle.packet.specs.Packets.{Fields}
 use Rattle.types.specs.declared.Key.{Key}
-use Rattle.demands.specs.Refusing.{TakingRefused, ParsingRefused, BuildingRefused, ChecksumRefused, WritingRefused, PageRefused, ReportRefused, UnfitRefused, MakingRefused}
+use Rattle.demands.specs.Refusing.{TakingRefused, ParsingRefused, BuildingRefused, ChecksumRefused, WritingRefused, PageRefused, ReportRefused, AnnouncingRefused, UnfitRefused, MakingRefused}
 use Rattle.demands.specs.Runs.{Slots}
 use Rattle.demands.specs.Orders.{OrderFree}
 use Rattle.demands.specs.Twice.{ReadAsWithout, TakenAsWithout, LastReplaces}
@@ -16,7 +16,7 @@ use Rattle.demands.specs.Always.{AlwaysFormed, NoKeyTwice}
 use Rattle.demands.specs.Crowding.{NeverDisplaced}
 use Rattle.demands.specs.SplitTaken.{MessagesArrive, PagesArrive}
 use Rattle.demands.specs.Delivery.{MessagesDelivered, PagesDelivered, MessagesWritten, PagesWritten}
-use Rattle.demands.specs.Reports.{ReportRefusals, NoneLost}
+use Rattle.demands.specs.Reports.{ReportRefusals, NoneLost, NoneLostEither, EditionsAlike, EitherAccepted}
 
 -- 1. "Every entry point takes every input, does nothing undefined and ends": no public call asks anything of its caller, and each is proved.
 -- "Bad input, bad buffers and a record that the library could not have made are refused by number. A refusal alters no lent buffer and no
@@ -29,6 +29,7 @@ pub record Demand1 : Type 0 where
   pub writing-user-data : WritingRefused
   pub writing-a-page : PageRefused
   pub writing-a-report : ReportRefused
+  pub announcing : AnnouncingRefused
   pub unfit : (n : ℕ) → UnfitRefused n
   pub making-a-record : MakingRefused
 
@@ -61,7 +62,10 @@ pub record Demand2 : Type 0 where
   pub taken-as-without : (n : ℕ) → TakenAsWithout n
   pub last-replaces : LastReplaces
   pub none-lost : (n : ℕ) → Slots n → NoneLost n
-  pub report-refusals : (spi capacity : ℕ) (p buffer : List ℕ) → ReportRefusals spi capacity p buffer
+  pub report-refusals : (edition spi capacity : ℕ) (p buffer : List ℕ) → ReportRefusals edition spi capacity p buffer
+  pub none-lost-either : (n : ℕ) → Slots n → NoneLostEither n
+  pub editions-alike : EditionsAlike
+  pub either-accepted : EitherAccepted
 
 -- 3. The wake window with n slots, for either kind, every key, every packet and every cut of it: "at most n − 1 other keys" (02 [5]); and "at
 -- no moment does one key occupy two slots". No series is displaced while at most n keys are unfinished.

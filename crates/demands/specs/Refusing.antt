@@ -8,6 +8,7 @@ use mathlib.Core.List.{List, []}
 use lib.ListN.{length}
 use Rattle.octets.specs.Octets.{fitsAt, afterPut}
 use Rattle.types.specs.declared.Kind.{Kind}
+use Rattle.types.specs.declared.Kind.the-variants.{Response}
 use Rattle.types.specs.Refusals as outcome
 use Rattle.types.specs.Refusals.{lent}
 use Rattle.packet.specs.Packets.{mostOctets, mostChecksum, Fields, parsing, shownData, shownCheck, shownOpaque, built, checksummed}
@@ -23,7 +24,7 @@ use Rattle.series.specs.CaseLaws.{Bears}
 use Rattle.series.specs.Calls.{Input, read, takeInput}
 use Rattle.split.specs.Splitting.{written, writeMessage, writePage}
 use Rattle.demands.specs.Runs.{Slots}
-use Rattle.report.specs.Reporting.{mostReport, reported, writeReport}
+use Rattle.report.specs.Reporting.{mostReport, reported, writeReport, responseAnnounces}
 
 -- ---- taking
 -- The call completes the series in that slot: it is read as a part of the slot's key and total, its number is not held, and with it none is
@@ -69,7 +70,8 @@ PageRefused =
 
 abbrev pub ReportRefused : Type 0
 ReportRefused =
-    (spi capacity : ℕ) (p buffer : List ℕ) (number : ℕ) → writeReport spi capacity p buffer .0 ≡ outcome.refused number → writeReport spi capacity p buffer .1 ≡ buffer
+    (edition spi capacity : ℕ) (p buffer : List ℕ) (number : ℕ)
+    → writeReport edition spi capacity p buffer .0 ≡ outcome.refused number → writeReport edition spi capacity p buffer .1 ≡ buffer
 
 -- ---- parsing: "with empty parts where parts are shown"
 pub record NothingShown (k : Kind) (c : Bool) (p : List ℕ) : Type 0 where
@@ -79,6 +81,10 @@ pub record NothingShown (k : Kind) (c : Bool) (p : List ℕ) : Type 0 where
 
 abbrev pub ParsingRefused : Type 0
 ParsingRefused = (k : Kind) (c : Bool) (p : List ℕ) (number : ℕ) → parsing k c p ≡ outcome.refused number → NothingShown k c p
+
+-- of a response that announces another: refused as parsing refuses it
+abbrev pub AnnouncingRefused : Type 0
+AnnouncingRefused = (p : List ℕ) (number : ℕ) → parsing Response false p ≡ outcome.refused number → responseAnnounces p ≡ outcome.refused number
 
 -- ---- "bad buffers and a record that the library could not have made are refused by number"
 -- Each call that lends a buffer or takes a record: with a buffer of another length than 01's, or a record that is not well formed, it is
@@ -94,8 +100,8 @@ pub record UnfitRefused (n : ℕ) : Type 0 where
       → writeMessage k width reference p which buffer ≡ written (outcome.refused 1) buffer
   pub writing-a-page : (serial identifier dcs : ℕ) (p : List ℕ) (which : ℕ) (buffer : List ℕ) → (length buffer ≡ pageOctets → ⊥)
       → writePage serial identifier dcs p which buffer ≡ written (outcome.refused 1) buffer
-  pub writing-a-report : (spi capacity : ℕ) (p buffer : List ℕ) → (length buffer ≡ mostReport → ⊥)
-      → writeReport spi capacity p buffer ≡ reported (outcome.refused 1) buffer
+  pub writing-a-report : (edition spi capacity : ℕ) (p buffer : List ℕ) → (length buffer ≡ mostReport → ⊥)
+      → writeReport edition spi capacity p buffer ≡ reported (outcome.refused 1) buffer
   pub put : (o : List ℕ) (at : ℕ) (p : List ℕ) → length o < at + length p → (fitsAt o at p ≡ false) × (afterPut o at p ≡ o)
 
 -- ---- making a record

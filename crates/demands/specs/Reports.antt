@@ -1,9 +1,9 @@
--- Demand 2 over reports (02, [1]: "Demand 2 covers this too"): when a call is refused, what is in a report is read as what it is, and no case
--- loses the response.
+-- Demand 2 over reports (02, [1]: "Demand 2 covers this too", and [12]): when a call is refused, what is in a report is read as what it is, and
+-- no case loses the response; the editions differ in one octet, and a server accepts either.
 use Prim.Native.Nat.{ℕ, _+_, _/_, _%_, _≤_, _<_}
 use mathlib.Core.Path.{_≡_}
 use mathlib.Core.Bool.{true, false}
-use mathlib.Core.List.{List, _++_}
+use mathlib.Core.List.{List, _∷_, _++_}
 use lib.ListN.{length, drop}
 use Rattle.octets.specs.Octets.{Octets}
 use Rattle.types.specs.declared.Kind.the-variants.{Response}
@@ -20,25 +20,27 @@ use Rattle.series.specs.Cells.{cellsSize}
 use Rattle.series.specs.Taking.{packet, after}
 use Rattle.series.specs.Calls.{message}
 use Rattle.split.specs.Splitting as split
-use Rattle.report.specs.Reporting.{nothingGoes, inReport, announced, submitted, Reported, reported, writeReport}
+use Rattle.report.specs.Reporting.{nothingGoes, inReport, announced, submitted, presentEdition, Reported, reported, writeReport, responseAnnounces}
 use Rattle.report.specs.Laws.{Asked, Unasked}
 use Rattle.demands.specs.Runs.{Call, fresh, outcome, run, Proper, Each}
 use Rattle.demands.specs.SplitTaken.{keyUnder}
 use Rattle.demands.specs.Delivery.{Delivered}
 
--- ---- "Refusals: 16 for a capacity outside 16 to 140, 17 for the reserved value; order 1, 16, 9, 12, 17"
+-- ---- "Refusals: 16 for a capacity outside 16 to 140, 17 for the reserved value; order 1, 16, 9, 12, 17"; "20 for an unknown edition, after 16"
 -- A call is refused exactly on these conditions, whatever SPI asks for, and writes nothing.
-module _ (spi capacity : ℕ) (p buffer : List ℕ) where
+module _ (edition spi capacity : ℕ) (p buffer : List ℕ) where
   abbrev pub IsRefused : ℕ → Type 0
-  IsRefused number = writeReport spi capacity p buffer ≡ reported (refused number) buffer
+  IsRefused number = writeReport edition spi capacity p buffer ≡ reported (refused number) buffer
 
   pub record ReportRefusals : Type 0 where
     pub one : (length buffer ≡ 140 → ⊥) → IsRefused 1
     pub sixteen-below : length buffer ≡ 140 → capacity < 16 → IsRefused 16
     pub sixteen-above : length buffer ≡ 140 → 140 < capacity → IsRefused 16
-    pub nine : length buffer ≡ 140 → 16 ≤ capacity → capacity ≤ 140 → wellFormed Response p ≡ false → IsRefused 9
-    pub twelve : length buffer ≡ 140 → 16 ≤ capacity → capacity ≤ 140 → wellFormed Response p ≡ true → 2142 < length p → IsRefused 12
-    pub seventeen : length buffer ≡ 140 → 16 ≤ capacity → capacity ≤ 140 → wellFormed Response p ≡ true → length p ≤ 2142 → spi % 4 ≡ 3 → IsRefused 17
+    pub twenty : length buffer ≡ 140 → 16 ≤ capacity → capacity ≤ 140 → 1 < edition → IsRefused 20
+    pub nine : length buffer ≡ 140 → 16 ≤ capacity → capacity ≤ 140 → edition ≤ 1 → wellFormed Response p ≡ false → IsRefused 9
+    pub twelve : length buffer ≡ 140 → 16 ≤ capacity → capacity ≤ 140 → edition ≤ 1 → wellFormed Response p ≡ true → 2142 < length p → IsRefused 12
+    pub seventeen : length buffer ≡ 140 → 16 ≤ capacity → capacity ≤ 140 → edition ≤ 1 → wellFormed Response p ≡ true → length p ≤ 2142 → spi % 4 ≡ 3
+        → IsRefused 17
 
 -- ---- what goes out
 -- The octets o, read as user data for a record of responses, are a single message whose packet is p: taken from any store that calls from a fresh
@@ -82,8 +84,39 @@ pub data Reaches (n status spi capacity : ℕ) (p : List ℕ) (t : Tar) (b : Pla
 
 -- So it is of every response that parsing does not refuse, in a buffer of 140 octets, for every capacity from 16 to 140 and every SPI that does
 -- not have the reserved value: no such call is refused.
-abbrev pub NoneLost : ℕ → Type 0
-NoneLost n =
+abbrev pub NoneLostIn : ℕ → ℕ → ℕ → Type 0
+NoneLostIn n edition status =
     (spi capacity : ℕ) (p : List ℕ) (t : Tar) (b : PlainResponse) (buffer : List ℕ) → Octets p
     → parsing Response false p ≡ gives (responseFields t (response.Plain b)) → length buffer ≡ 140 → 16 ≤ capacity → capacity ≤ 140
-    → (spi % 4 ≡ 3 → ⊥) → Reaches n 0x0B spi capacity p t b buffer (writeReport spi capacity p buffer)
+    → (spi % 4 ≡ 3 → ⊥) → Reaches n status spi capacity p t b buffer (writeReport edition spi capacity p buffer)
+
+-- of the present edition, in which 0B announces
+abbrev pub NoneLost : ℕ → Type 0
+NoneLost n = NoneLostIn n presentEdition 0x0B
+
+-- ---- the editions
+-- 'a response too large for the report is announced by "more time", 08 in TS 102 225, not 0B': "one statement covers both"
+pub data Edition : ℕ → ℕ → Type 0 where
+  old : Edition 0 0x08
+  present : Edition 1 0x0B
+
+abbrev pub NoneLostEither : ℕ → Type 0
+NoneLostEither n = (edition status : ℕ) → Edition edition status → NoneLostIn n edition status
+
+-- "it changes that one octet": two outcomes are the same, or both announce and differ at place 15 of the buffer, 08 and 0B
+pub data Alike : Reported → Reported → Type 0 where
+  equal : (r : Reported) → Alike r r
+  but-one : (front rest : List ℕ) → length front ≡ 15
+      → Alike (reported (gives (announced 16)) (front ++ (0x08 ∷ rest))) (reported (gives (announced 16)) (front ++ (0x0B ∷ rest)))
+
+abbrev pub EditionsAlike : Type 0
+EditionsAlike = (spi capacity : ℕ) (p buffer : List ℕ) → Alike (writeReport 0 spi capacity p buffer) (writeReport 1 spi capacity p buffer)
+
+-- "A server accepts either": a response announces another exactly if it parses to the status 0B or 08
+pub record Announcements (p : List ℕ) (t : Tar) (b : PlainResponse) : Type 0 where
+  pub by-present : b .status ≡ 0x0B → responseAnnounces p ≡ gives true
+  pub by-old : b .status ≡ 0x08 → responseAnnounces p ≡ gives true
+  pub by-none : (b .status ≡ 0x0B → ⊥) → (b .status ≡ 0x08 → ⊥) → responseAnnounces p ≡ gives false
+
+abbrev pub EitherAccepted : Type 0
+EitherAccepted = (p : List ℕ) (t : Tar) (b : PlainResponse) → parsing Response false p ≡ gives (responseFields t (response.Plain b)) → Announcements p t b

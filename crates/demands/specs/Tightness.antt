@@ -42,6 +42,7 @@ use Rattle.types.specs.declared.WrittenPart.{WrittenPart}
 use Rattle.split.specs.Splitting as split
 use Rattle.types.specs.declared.Spi.{Spi}
 use Rattle.types.specs.declared.Outgoing.{Outgoing}
+use Rattle.types.specs.declared.Announcing.{Announcing}
 use Rattle.report.specs.Reporting as report
 
 -- whatever the rule says, two outcomes of which that is told are the same
@@ -90,6 +91,8 @@ pub record Tellings : Type 0 where
   pub write-message-and-page : Tight toldPart
   -- write_report
   pub write-report : Tight toldReport
+  -- response_announces
+  pub response-announces : Tight report.toldAnnouncing
   -- and of the calls between crates: judge, packet_size, hand_out; and of what walk answers, though its promise is the answer itself
   pub judge : Tight toldJudged
   pub walk : Tight toldWalked
@@ -159,4 +162,6 @@ pub record Promises : Type 0 where
   pub write-page : (serial : SerialNumber) (identifier : MessageIdentifier) (dcs number : ℕ) (p out : List ℕ)
       → One (λ (r : WrittenPart × List ℕ). toldPart r ≡ split.writePage (serial .0) (identifier .0) dcs p number out)
   -- reporting
-  pub write-report : (spi : Spi) (capacity : ℕ) (p out : List ℕ) → One (λ (r : Outgoing × List ℕ). toldReport r ≡ report.writeReport (spi .1) capacity p out)
+  pub write-report : (spi : Spi) (capacity edition : ℕ) (p out : List ℕ)
+      → One (λ (r : Outgoing × List ℕ). toldReport r ≡ report.writeReport edition (spi .1) capacity p out)
+  pub response-announces : (p : List ℕ) → One (λ (r : Announcing). report.toldAnnouncing r ≡ report.responseAnnounces p)
