@@ -1,5 +1,6 @@
 // What the library answered, as rows.
 use crate::Row;
+use types::Announcing;
 use types::Answer;
 use types::Arrival;
 use types::Clear;
@@ -234,6 +235,15 @@ pub fn outgoing(o: Outgoing) -> Row {
         Outgoing::Announcement { length } => one(ANNOUNCE, 10, length as u64),
         Outgoing::Submit => plain(SUBMIT),
         Outgoing::Refused(why) => refusal(why),
+    }
+}
+
+// Whether a response says that another follows: `yes`, `no`.
+pub fn announcing(a: Announcing) -> Row {
+    match a {
+        Announcing::Yes => plain(YES),
+        Announcing::No => plain(NO),
+        Announcing::Refused(why) => refusal(why),
     }
 }
 

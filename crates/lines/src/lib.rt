@@ -111,5 +111,8 @@ pub fn answer_row(l: Line, fields: &[u8], row: Row, size: usize, buffer: &mut [u
     if (table::READ_COMMAND <= l.row) & (l.row <= table::READ_PAGE_RESPONSE) {
         return parts::arrival(l.row, fields);
     }
+    if l.row == table::ANNOUNCES {
+        return rows::announcing(skelmarix::response_announces(fields));
+    }
     make(l, fields, size, buffer)
 }

@@ -75,9 +75,17 @@ pub(crate) fn write(l: Line, fields: &[u8], out: &mut [u8]) -> WrittenPart {
     write_message(l, fields, out)
 }
 
+// The edition of a line on a report: its fourth word, or the present one if it is left out.
+fn edition_of(l: Line) -> u32 {
+    if l.count == 4 {
+        return narrow(l.values[3]);
+    }
+    types::PRESENT_EDITION
+}
+
 // What goes out of a response: SPI is the first two octets.
 pub(crate) fn report(l: Line, fields: &[u8], out: &mut [u8]) -> types::Outgoing {
     let spi = types::Spi(octet(fields, 0), octet(fields, 1));
     let capacity = narrow(l.values[1]) as usize;
-    skelmarix::write_report(spi, capacity, own_octets(fields, 2), out)
+    skelmarix::write_report(spi, capacity, edition_of(l), own_octets(fields, 2), out)
 }

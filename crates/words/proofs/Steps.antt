@@ -100,7 +100,7 @@ module _ (name : Bool) (n x : ℕ) where
 pub record Counting (name : Bool) (most : ℕ) (line : List ℕ) (from value at : ℕ) : Type 0 where
   pub is : valueFrom name most value (drop at line) ≡ valueFrom name most 0 (drop from line)
   pub text : behindDigits name (drop at line) ≡ behindDigits name (drop from line)
-  pub small : value ≤ 1099511627776
+  pub small : value ≤ 35184372088832
   pub past : from ≤ at
   pub inside : at ≤ length line
 
@@ -109,7 +109,7 @@ module _ (name : Bool) (most : ℕ) (line : List ℕ) (from : ℕ) where
   count-none l = record { is = refl; text = refl; small = omega arith; past = omega arith; inside = l }
 
   module _ (value at : ℕ) (u : Counting name most line from value at) where
-    pub count-small : value ≤ 1099511627776
+    pub count-small : value ≤ 35184372088832
     count-small = u .small
 
     pub count-all : length line ≤ at → Counted name most from line (record { value = value; at = at })
@@ -132,7 +132,7 @@ module _ (name : Bool) (most : ℕ) (line : List ℕ) (from : ℕ) where
           let t : behindDigits name (drop at line) ≡ drop at line = rw (drop-cons line at 0, ← is, not-true b e) in
           record { is = sym v ∙ u .is; text = sym t ∙ u .text; past = u .past; inside = u .inside }
 
-      pub count-more : (v : ℕ) → not b ≡ false → v ≡ shifted name most value (getD line at 0) → v ≤ 1099511627776
+      pub count-more : (v : ℕ) → not b ≡ false → v ≡ shifted name most value (getD line at 0) → v ≤ 35184372088832
           → Counting name most line from v (at + 1)
       unfolding valueFrom behindDigits
       count-more v e f l =
@@ -288,18 +288,18 @@ module _ (line : List ℕ) (from end : ℕ) (there : from < length line) where
 pub record Finding (key i : ℕ) : Type 0 where
   pub is : rowFrom key i (drop i keys) ≡ rowOf key
   pub past : 1 ≤ i
-  pub inside : i ≤ 52
+  pub inside : i ≤ 53
 
 module _ (key : ℕ) where
   pub find-none : Finding key 1
   find-none = record { is = refl; past = omega arith; inside = omega arith }
 
   module _ (i : ℕ) (u : Finding key i) where
-    pub find-out : 52 ≤ i → 0 ≡ rowOf key
+    pub find-out : 53 ≤ i → 0 ≡ rowOf key
     unfolding rowFrom
-    find-out l = let e : i ≡ 52 = omega (arith, u .inside) in subst (λ (k : ℕ). rowFrom key k (drop k keys) ≡ rowOf key) e (u .is)
+    find-out l = let e : i ≡ 53 = omega (arith, u .inside) in subst (λ (k : ℕ). rowFrom key k (drop k keys) ≡ rowOf key) e (u .is)
 
-    module _ (more : i < 52) where
+    module _ (more : i < 53) where
       next : rowFrom key i (drop i keys) ≡ cond (eqb (getD keys i 0) key) i (rowFrom key (i + 1) (drop (suc i) keys))
       unfolding rowFrom
       next = rw (drop-cons keys i 0 more)
@@ -316,7 +316,7 @@ module _ (key : ℕ) where
           }
 
 -- a number and what is added to it stay small
-most-small : (i : ℕ) → i < 8 → getD mosts i 0 ≤ 1099511627775
+most-small : (i : ℕ) → i < 8 → getD mosts i 0 ≤ 35184372088831
 most-small zero l = omega arith
 most-small (suc zero) l = omega arith
 most-small (suc (suc zero)) l = omega arith
@@ -327,7 +327,7 @@ most-small (suc (suc (suc (suc (suc (suc zero)))))) l = omega arith
 most-small (suc (suc (suc (suc (suc (suc (suc zero))))))) l = omega arith
 most-small (suc (suc (suc (suc (suc (suc (suc (suc i)))))))) l = absurd (omega arith)
 
-pub most-below : (sort : ℕ) → mostOf sort ≤ 1099511627775
+pub most-below : (sort : ℕ) → mostOf sort ≤ 35184372088831
 most-below sort = most-small (sort % 8) (omega arith)
 
 -- ---- one word

@@ -41,9 +41,9 @@ octets n = 8 + n
 abbrev pub slotParts : ℕ
 slotParts = 15
 
--- the greatest number of each sort; no name has more than eight letters
+-- the greatest number of each sort; no name has more than nine letters
 abbrev pub mosts : List ℕ
-mosts = 0 ∷ 1099511627775 ∷ 4294967295 ∷ 65535 ∷ 16384 ∷ 255 ∷ 4 ∷ 4294967295 ∷ []
+mosts = 0 ∷ 35184372088831 ∷ 4294967295 ∷ 65535 ∷ 16384 ∷ 255 ∷ 4 ∷ 4294967295 ∷ []
 
 abbrev pub mostOf : ℕ → ℕ
 mostOf sort = getD mosts (sort % 8) 0
@@ -120,12 +120,13 @@ rows =
     row 47 "command" any ∷
     row 47 "response" any ∷
     row 0 "slots" octet ∷
-    row 0 "report" (octets 2 then number then any) ∷
+    row 0 "report" (octets 2 then number then any then numberOrNone) ∷
+    row 0 "announces" any ∷
     []
 
 -- the key of a name behind an earlier row
 abbrev pub nameAfter : ℕ → ℕ → ℕ
-nameAfter earlier n = earlier % 64 * 1099511627776 + n % 1099511627776
+nameAfter earlier n = earlier % 64 * 35184372088832 + n % 35184372088832
 
 abbrev pub keys : List ℕ
 keys = map (λ r. nameAfter (r .earlier) (letters 0 (r .named))) rows

@@ -113,7 +113,7 @@ fn closed(s: Line, good: bool, at: usize) -> Line
 fn named(s: Line, w: Word) -> Line
     ensures { λ r. ⌜ ((l k : List ℕ) → gathered r l ≡ rule.named (gathered s k) (wordOf w l) (rowOf (nameAfter (s .row) (w .value)))) × (r .at ≡ w .at) × (r .end ≡ w .end) ⌝ }
 {
-    let row = find((s.row % 64) as u64 * 1099511627776 + w.value % 1099511627776);
+    let row = find((s.row % 64) as u64 * 35184372088832 + w.value % 35184372088832);
     let mut t = s;
     t.understood = false;
     t.more = w.good & !(row == 0);

@@ -6,7 +6,7 @@ ghost use lib.ListN.{getD};
 ghost use Rattle.words.specs.Table.{keys, rowOf, allSorts, mostOf};
 
 // How many rows there are; row 0 is where a line begins, and stands for none.
-const ROWS: usize = 52;
+const ROWS: usize = 53;
 
 // The rows that lines are told apart by.
 pub const MESSAGE: usize = 1;
@@ -63,20 +63,22 @@ pub const SLOTS: usize = 50;
 
 pub const REPORT: usize = 51;
 
+pub const ANNOUNCES: usize = 52;
+
 // The key of each row: its earlier row and its name.
 const KEYS: [u64; ROWS] = [
     0,
     14146962661,
     525541,
     6887016,
-    3302273484228,
-    3923033700965,
+    105556854867396,
+    106177615084133,
     206220,
     398788,
-    7696584716691,
-    7697107403444,
-    7696670726322,
-    7696600571156,
+    246290607944083,
+    246291130630836,
+    246290693953714,
+    246290623798548,
     492210354,
     635380,
     609336900,
@@ -86,37 +88,38 @@ const KEYS: [u64; ROWS] = [
     89331890,
     3738600900,
     624498817637,
-    21990249727278,
-    22103520888996,
+    703687458948398,
+    703800730110116,
     631287,
-    25292506039748,
-    25913266256485,
-    27487807866158,
-    27601079027876,
+    809244296644036,
+    809865056860773,
+    879609319392558,
+    879722590554276,
     111840448173,
-    30790064178628,
-    31410824395365,
-    32985366005038,
-    33098637166756,
+    985166157088196,
+    985786917304933,
+    1055531179836718,
+    1055644450998436,
     2794884,
-    36287622317508,
-    36908382534245,
-    37383412516142,
-    37496683677860,
-    38482924143918,
-    38596195305636,
+    1161088017532356,
+    1161708777749093,
+    1196268668192046,
+    1196381939353764,
+    1231453040280878,
+    1231566311442596,
     24716933,
-    43984203711940,
-    44604963928677,
-    43980465636581,
+    1407378622154180,
+    1407999382370917,
+    1407374884078821,
     594980,
-    48382250223044,
-    49003010439781,
-    48378512147685,
-    51680785106372,
-    52301545323109,
+    1548116110509508,
+    1548736870726245,
+    1548112372434149,
+    1653669226776004,
+    1654289986992741,
     20332179,
     609762900,
+    1596106149043,
 ];
 
 // The sorts of the words that follow, four bits each, the first lowest.
@@ -172,13 +175,14 @@ const SORTS: [u64; ROWS] = [
     0x8,
     0x8,
     0x5,
-    0x82A,
+    0x782A,
+    0x8,
 ];
 
 // The greatest number of each sort.
 const MOSTS: [u64; 8] = [
     0,
-    1099511627775,
+    35184372088831,
     4294967295,
     65535,
     16384,
@@ -188,7 +192,7 @@ const MOSTS: [u64; 8] = [
 ];
 
 fn key_at(i: usize) -> u64
-    requires { ⌜ i < 52 ⌝ }
+    requires { ⌜ i < 53 ⌝ }
     ensures { λ r. ⌜ r ≡ getD keys i 0 ⌝ }
 {
     KEYS[i]
@@ -196,7 +200,7 @@ fn key_at(i: usize) -> u64
 
 // The row of a key; 0 if there is none.
 pub(crate) fn find(key: u64) -> usize
-    ensures { λ r. ⌜ (r ≡ rowOf key) × (r < 52) ⌝ }
+    ensures { λ r. ⌜ (r ≡ rowOf key) × (r < 53) ⌝ }
 {
     let mut i = 1;
     while i < ROWS {
@@ -210,7 +214,7 @@ pub(crate) fn find(key: u64) -> usize
 
 // The sorts of the words behind a row.
 pub(crate) fn sorts_of(row: usize) -> u64
-    requires { ⌜ row < 52 ⌝ }
+    requires { ⌜ row < 53 ⌝ }
     ensures { λ r. ⌜ r ≡ getD allSorts row 0 ⌝ }
 {
     SORTS[row]
@@ -218,7 +222,7 @@ pub(crate) fn sorts_of(row: usize) -> u64
 
 // The greatest number of a sort.
 pub(crate) fn most_of(sort: u8) -> u64
-    ensures { λ r. ⌜ (r ≡ mostOf sort) × (r ≤ 1099511627775) ⌝ }
+    ensures { λ r. ⌜ (r ≡ mostOf sort) × (r ≤ 35184372088831) ⌝ }
 {
     MOSTS[(sort % 8) as usize]
 }

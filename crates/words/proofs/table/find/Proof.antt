@@ -8,7 +8,7 @@ abbrev Inv-loop : tie.InvT-loop
 Inv-loop key i₀ i = Finding key i
 
 abbrev μ-loop : tie.MeasureT-loop
-μ-loop key i₀ i = 52 - i
+μ-loop key i₀ i = 53 - i
 
 pub find-spec : {M : Type 1} → statement M
 find-spec =
