@@ -83,8 +83,9 @@ static void sum_command(void) { length = cost_command_checksum(packet, MOST, sum
 static void sum_response(void) { length = cost_response_checksum(response, MOST, sum, SUM); }
 static void write_message(void) { length = cost_write_message(0, 8, 7, 2, packet, MOST, ud, UD); }
 static void write_page(void) { length = cost_write_page(7, 0x1080, 0, 2, paged, PAGED, page, PAGE); }
-static void report_whole(void) { length = cost_write_report(1, UD, whole, WHOLE, ud, UD); }
-static void report_announced(void) { length = cost_write_report(1, UD, response, MOST, ud, UD); }
+static void report_whole(void) { length = cost_write_report(1, UD, 1, whole, WHOLE, ud, UD); }
+static void report_announced(void) { length = cost_write_report(1, UD, 1, response, MOST, ud, UD); }
+static void announces(void) { length = cost_response_announces(response, MOST); }
 static void build_ciphered_command(void) { length = cost_build_ciphered_command(21, packet, 2132, out, MOST); }
 static void build_ciphered_response(void) { length = cost_build_ciphered_response(18, packet, 2136, out, MOST); }
 static void command_check(void) { length = cost_command_check(packet, MOST); }
@@ -220,6 +221,7 @@ static void packets(void) {
     gives("write_page, page 2 of 15", write_page, PAGE);
     gives("write_report, 137 octets in the report", report_whole, UD);
     gives("write_report, 2,142 octets announced", report_announced, 16);
+    gives("response_announces", announces, 0);
 }
 
 static void octets(void) {

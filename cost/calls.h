@@ -22,7 +22,8 @@ size_t cost_command_checksum(const uint8_t *packet, size_t, uint8_t *out, size_t
 size_t cost_response_checksum(const uint8_t *packet, size_t, uint8_t *out, size_t);
 size_t cost_write_message(uint8_t kind, uint32_t width, uint32_t reference, uint32_t number, const uint8_t *packet, size_t, uint8_t *out, size_t);
 size_t cost_write_page(uint16_t serial, uint16_t identifier, uint8_t dcs, uint32_t number, const uint8_t *packet, size_t, uint8_t *out, size_t);
-size_t cost_write_report(uint8_t spi, size_t capacity, const uint8_t *response, size_t, uint8_t *out, size_t);
+size_t cost_write_report(uint8_t spi, size_t capacity, uint32_t edition, const uint8_t *response, size_t, uint8_t *out, size_t);
+bool cost_response_announces(const uint8_t *response, size_t);
 size_t cost_build_ciphered_command(uint16_t header, const uint8_t *opaque, size_t, uint8_t *out, size_t);
 size_t cost_build_ciphered_response(uint16_t header, const uint8_t *opaque, size_t, uint8_t *out, size_t);
 size_t cost_command_check(const uint8_t *packet, size_t);
