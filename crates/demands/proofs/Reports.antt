@@ -25,7 +25,7 @@ use Rattle.split.specs.Laws.{one-part, part-whole}
 use Rattle.split.specs.ReadBack.{read-single}
 use Rattle.report.specs.Reporting.{Going, nothingGoes, inReport, announced, submitted, asked, reserved, bySubmit, leastReport, mostReport, noCapacity, reportOf, statusOf, beforeStatus, announcing, goingOut, knownEdition, announcedBy, reporting, reported, writesReport, writeReport, announcesAnother, responseAnnounces}
 use Rattle.report.specs.Laws.{Asked, Unasked, Way, not-asked, for-submit, small, too-large, way-of, reporting-gives, announcing-octets, announcing-length}
-use Rattle.demands.specs.Reports.{ReportRefusals, ReadAlone, Follows, withStatus, Reaches, none-asked, carried, announces, parts-alone, NoneLostIn, NoneLost, old, present, NoneLostEither, Alike, equal, but-one, EditionsAlike, EitherAccepted}
+use Rattle.demands.specs.Reports.{ReportRefusals, ReadAlone, Follows, withStatus, ReachesServer, none-asked, carried, announces, parts-alone, NoneLostIn, NoneLost, old, present, NoneLostEither, Alike, equal, but-one, EditionsAlike, EitherAccepted}
 use Rattle.demands.proofs.RoundTrips.{parsed-is-formed, builds-or-refuses}
 use Rattle.demands.proofs.Written.{done, and, small-octets, octets-small, append-small, take-small, drop-small}
 use Rattle.demands.specs.Runs.{Slots}
@@ -121,7 +121,7 @@ module _ (n : ℕ) (pos : Slots n) (status : ℕ) (octet : status < 256) (spi ca
   formed : (wellFormed Response p ≡ true) × (length p ≤ mostOctets)
   formed = formed-size p t b e
 
-  each-way : (g : Going (List ℕ)) → Way status spi capacity p g → Reaches n status spi capacity p t b buffer (writesReport (gives g) buffer)
+  each-way : (g : Going (List ℕ)) → Way status spi capacity p g → ReachesServer n status spi capacity p t b buffer (writesReport (gives g) buffer)
   each-way g (not-asked a) = none-asked (subst (Unasked spi) (status-is p t b e) a)
   each-way g (for-submit a s) = parts-alone (subst (Asked spi) (status-is p t b e) a) s (follows n pos p octets (formed .0) (formed .1))
   each-way g (small a s l) =
@@ -137,7 +137,7 @@ none-lost-in : (n : ℕ) → Slots n → (edition status : ℕ) → knownEdition
 unfolding writeReport
 none-lost-in n pos edition status is by octet spi capacity p t b buffer octets e lent least most free =
     let f = formed-size p t b e in
-    subst (λ (o : Outcome (Going (List ℕ))). Reaches n status spi capacity p t b buffer (writesReport o buffer))
+    subst (λ (o : Outcome (Going (List ℕ))). ReachesServer n status spi capacity p t b buffer (writesReport o buffer))
     (sym (reporting-gives status spi capacity p free edition (length buffer) is by lent least most (f .0) (f .1)))
     (each-way n pos status octet spi capacity p t b buffer octets e least most (goingOut status spi capacity p) (way-of status spi capacity p free))
 

@@ -72,15 +72,15 @@ withStatus status b = record { cntr = b .cntr; pcntr = b .pcntr; status = status
 -- What becomes of a response p that parses to t and b, where SPI and the capacity are these. None is asked for. Or it is whole in the report. Or
 -- the report says that it follows, and it follows whole. Or it goes whole in submitted parts. No report exceeds the capacity, and behind the
 -- report the lent buffer is as it was.
-pub data Reaches (n status spi capacity : ℕ) (p : List ℕ) (t : Tar) (b : PlainResponse) (buffer : List ℕ) : Reported → Type 0 where
-  none-asked : Unasked spi (b .status) → Reaches n status spi capacity p t b buffer (reported (gives nothingGoes) buffer)
+pub data ReachesServer (n status spi capacity : ℕ) (p : List ℕ) (t : Tar) (b : PlainResponse) (buffer : List ℕ) : Reported → Type 0 where
+  none-asked : Unasked spi (b .status) → ReachesServer n status spi capacity p t b buffer (reported (gives nothingGoes) buffer)
   carried : Asked spi (b .status) → spi / 32 % 2 ≡ 0 → (o : List ℕ) → length o ≤ capacity → ReadAlone n o p
-      → Reaches n status spi capacity p t b buffer (reported (gives (inReport (length o))) (o ++ drop (length o) buffer))
+      → ReachesServer n status spi capacity p t b buffer (reported (gives (inReport (length o))) (o ++ drop (length o) buffer))
   announces : Asked spi (b .status) → spi / 32 % 2 ≡ 0 → capacity < 3 + length p → (o q : List ℕ) → length o ≤ capacity → ReadAlone n o q
       → parsing Response false q ≡ gives (responseFields t (response.Plain (withStatus status b))) → Follows n p
-      → Reaches n status spi capacity p t b buffer (reported (gives (announced (length o))) (o ++ drop (length o) buffer))
+      → ReachesServer n status spi capacity p t b buffer (reported (gives (announced (length o))) (o ++ drop (length o) buffer))
   parts-alone : Asked spi (b .status) → spi / 32 % 2 ≡ 1 → Follows n p
-      → Reaches n status spi capacity p t b buffer (reported (gives submitted) buffer)
+      → ReachesServer n status spi capacity p t b buffer (reported (gives submitted) buffer)
 
 -- So it is of every response that parsing does not refuse, in a buffer of 140 octets, for every capacity from 16 to 140 and every SPI that does
 -- not have the reserved value: no such call is refused.
@@ -88,7 +88,7 @@ abbrev pub NoneLostIn : ℕ → ℕ → ℕ → Type 0
 NoneLostIn n edition status =
     (spi capacity : ℕ) (p : List ℕ) (t : Tar) (b : PlainResponse) (buffer : List ℕ) → Octets p
     → parsing Response false p ≡ gives (responseFields t (response.Plain b)) → length buffer ≡ 140 → 16 ≤ capacity → capacity ≤ 140
-    → (spi % 4 ≡ 3 → ⊥) → Reaches n status spi capacity p t b buffer (writeReport edition spi capacity p buffer)
+    → (spi % 4 ≡ 3 → ⊥) → ReachesServer n status spi capacity p t b buffer (writeReport edition spi capacity p buffer)
 
 -- of the present edition, in which 0B announces
 abbrev pub NoneLost : ℕ → Type 0
