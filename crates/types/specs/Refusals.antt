@@ -4,7 +4,7 @@ use mathlib.Core.Bool.{Bool, true, false}
 use mathlib.Core.List.{List, _++_}
 use lib.ListN.{length, drop}
 use Rattle.types.specs.declared.Refusal.{Refusal}
-use Rattle.types.specs.declared.Refusal.the-variants.{BufferOrRecord, InputLength, HeaderOverrun, HeaderElement, WrongIdentifier, TooManyParts, OtherTotal, OtherOctets, MalformedPacket, CipherMismatch, PacketHeader, PacketTooLong, ReferenceWidth, PartNumber, CheckMismatch, ReportCapacity, ReservedSpi, UnknownEdition, SlotNumber}
+use Rattle.types.specs.declared.Refusal.the-variants.{BufferOrRecord, InputLength, HeaderOverrun, HeaderElement, WrongIdentifier, TooManyParts, OtherTotal, OtherOctets, MalformedPacket, CipherMismatch, PacketHeader, PacketTooLong, ReferenceWidth, PartNumber, CheckMismatch, ReportCapacity, ReservedSpi, CounterTable, UnknownEdition, SlotNumber}
 use Rattle.types.specs.declared.Written.{Written}
 use Rattle.types.specs.declared.Written.the-variants.{Octets, Refused}
 
@@ -27,6 +27,7 @@ refusalNumber PartNumber = 14
 refusalNumber CheckMismatch = 15
 refusalNumber ReportCapacity = 16
 refusalNumber ReservedSpi = 17
+refusalNumber CounterTable = 19
 refusalNumber UnknownEdition = 20
 refusalNumber SlotNumber = 25
 

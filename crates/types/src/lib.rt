@@ -29,26 +29,29 @@ pub enum Refusal {
     // 8: the part is held with other octets. Taking.
     OtherOctets,
     // 9: octets that are no well-formed packet, or not of the length that its pages allow. Taking, parsing, checksum octets, writing,
-    // reporting.
+    // reporting, judging a counter.
     MalformedPacket,
-    // 10: a plain body although SPI says ciphered, or the other way round; checksum octets of a ciphered packet. Building a command, checksum octets.
+    // 10: a plain body although SPI says ciphered, or the other way round; checksum octets of a ciphered packet, or its counter judged. Building a
+    // command, checksum octets, judging a counter.
     CipherMismatch,
     // 11: a check field, a header length or opaque octets that the header of a packet cannot have. Building.
     PacketHeader,
     // 12: a packet longer than can be carried: 2,142 octets, 2,126 with references of 16 bits, 1,230 in pages. Parsing, building, checksum
-    // octets, writing, reporting.
+    // octets, writing, reporting, judging a counter.
     PacketTooLong,
     // 13: a width other than 8 and 16, or a reference that does not fit it. Writing a message.
     ReferenceWidth,
     // 14: a part or page of number 0, or of a number above the total. Writing.
     PartNumber,
     // 15: the check bits of a plain command's SPI say that nothing is checked and there is a check field, or the other way round. Parsing,
-    // building, checksum octets: commands.
+    // building, checksum octets, judging a counter: commands.
     CheckMismatch,
     // 16: a capacity of a delivery report outside 16 to 140 octets. Reporting.
     ReportCapacity,
     // 17: the reserved value 11 in the low two bits of SPI's second octet. Reporting.
     ReservedSpi,
+    // 19: a table of counters that says that more than 16 entries are in use, or in which one TAR is named twice among them. Judging a counter.
+    CounterTable,
     // 20: an edition that is neither the old nor the present one. Reporting.
     UnknownEdition,
     // 25: a record asked for with no slots, or with more than five. Making a record.
@@ -78,6 +81,7 @@ impl Refusal {
             Refusal::CheckMismatch => 15,
             Refusal::ReportCapacity => 16,
             Refusal::ReservedSpi => 17,
+            Refusal::CounterTable => 19,
             Refusal::UnknownEdition => 20,
             Refusal::SlotNumber => 25,
         }
@@ -264,6 +268,34 @@ pub const PART_OCTETS: usize = 134;
 pub const PAGE_OCTETS: usize = 88;
 
 pub const PAGE_CONTENT: usize = 82;
+
+// ---- counters
+// The most applications whose counters a table holds.
+pub const COUNTER_ENTRIES: usize = 16;
+
+// The counter that is stored for an application.
+pub struct CounterEntry {
+    pub tar: Tar,
+    pub cntr: Cntr,
+}
+
+// The stored counters. The first `count` entries are in use, each for another application; the others count for nothing.
+pub struct Counters {
+    pub count: u8,
+    pub entries: [CounterEntry; COUNTER_ENTRIES],
+}
+
+// What judging the counter of a command answers: a status of TS 102 225, as a response bears it, or a refusal.
+pub enum Judgement {
+    Status(u8),
+    Refused(Refusal),
+}
+
+// The answer, and the table as it is afterwards.
+pub struct JudgedCounter {
+    pub answer: Judgement,
+    pub counters: Counters,
+}
 
 // ---- splitting
 // What writing one part answers: how many parts the packet has, and how many octets are at the buffer's start.
