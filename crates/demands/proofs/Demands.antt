@@ -24,6 +24,7 @@ demand-1 = record {
   writing-a-page = refusing.page-refused;
   writing-a-report = refusing.report-refused;
   announcing = refusing.announcing-refused;
+  judging-a-counter = refusing.judging-refused;
   unfit = refusing.unfit-refused;
   making-a-record = refusing.making-refused;
 }

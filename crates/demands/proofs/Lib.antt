@@ -12,6 +12,7 @@ pub mod Tightness
 pub mod Along
 pub mod RoundTrips
 pub mod Checked
+pub mod Counters
 pub mod SplitTaken
 pub mod Written
 pub mod Delivery

@@ -13,7 +13,8 @@ use Rattle.types.specs.declared.Kind.{Kind}
 use Rattle.types.specs.declared.Kind.the-variants.{Response}
 use Rattle.types.specs.Refusals as outcome
 use Rattle.types.specs.Refusals.{refuse_when_otherwise_}
-use Rattle.packet.specs.Packets.{wellFormed, mostOctets, mostChecksum, into, building, built, checksumOctets, checksummed, parsing, againstCheck, readable, shown, securedOf, checkOf, opaqueOf, fieldsOf, measured, shownData, shownCheck, shownOpaque}
+use Rattle.types.specs.declared.Kind.the-variants.{Command}
+use Rattle.packet.specs.Packets.{wellFormed, cipheredCommand, mostOctets, mostChecksum, into, building, built, checksumOctets, checksummed, parsing, againstCheck, readable, shown, securedOf, checkOf, opaqueOf, fieldsOf, measured, shownData, shownCheck, shownOpaque}
 use Rattle.types.specs.declared.Key.{Key}
 use Rattle.arrival.specs.Arrivals.{Brought, single, part}
 use Rattle.arrival.specs.Message.{mostUserData}
@@ -28,8 +29,10 @@ use Rattle.series.specs.Taking.{State, state, After, kept, heldAlready, packet,
 use Rattle.series.specs.CaseLaws.{Case, other-total, other-octets, again, last, more, opens, displaces, case-of}
 use Rattle.series.specs.Calls.{Input, octetsOf, read, takeInput}
 use Rattle.split.specs.Splitting as split
+use Rattle.types.specs.declared.Counters.{Counters}
+use Rattle.counters.specs.Counters.{unfitCounters, judgedBy, orLeaves, judgeCounter}
 use Rattle.report.specs.Reporting as report
-use Rattle.demands.specs.Refusing.{Leaves, unaltered, dropped, TakingRefused, BuildingRefused, ChecksumRefused, WritingRefused, PageRefused, ReportRefused, ParsingRefused, AnnouncingRefused, UnfitRefused, MakingRefused}
+use Rattle.demands.specs.Refusing.{Leaves, unaltered, dropped, TakingRefused, BuildingRefused, ChecksumRefused, WritingRefused, PageRefused, ReportRefused, JudgingRefused, ParsingRefused, AnnouncingRefused, UnfitRefused, MakingRefused}
 use Rattle.demands.specs.Runs.{Slots}
 use Rattle.demands.proofs.Calls.{isPage, taking-any}
 
@@ -132,6 +135,16 @@ report-left (outcome.gives (report.announced o)) buffer number e = let z : _≡_
 pub report-refused : ReportRefused
 unfolding report.writeReport
 report-refused edition spi capacity p buffer = report-left (report.reporting edition spi capacity p (length buffer)) buffer
+
+-- ---- judging a counter
+table-left : (c : Counters) (o : outcome.Outcome (ℕ × Counters)) (number : ℕ) → orLeaves c o .answer ≡ outcome.refused number → orLeaves c o .counters ≡ c
+table-left c (outcome.refused m) number e = refl
+table-left c (outcome.gives x) number e = let z : _≡_ {A = ℕ} 0 1 = cc in absurd (omega arith)
+
+pub judging-refused : JudgingRefused
+unfolding judgeCounter
+judging-refused c p =
+    table-left c (readable Command (cipheredCommand p) p (refuse 10 when cipheredCommand p otherwise refuse 19 when unfitCounters c otherwise outcome.gives (judgedBy c p)))
 
 -- ---- parsing
 nothing : {A : Type 0} (number : ℕ) (x : A) (y : List ℕ) (a b c : Bool)

@@ -1,5 +1,5 @@
 -- Each promise is tight: the outcome can be read back from what is told of it.
-use Prim.Native.Nat.{ℕ, _+_, _-_}
+use Prim.Native.Nat.{ℕ, _+_}
 use mathlib.Core.Path.{_≡_, refl, sym, ap, _∙_}
 use mathlib.Core.Bool.{Bool, true, false, cond}
 use mathlib.Core.List.{List, [], _∷_}
@@ -11,7 +11,7 @@ use Rattle.octets.specs.Octets as octets
 use Rattle.octets.specs.Given as given
 use Rattle.types.specs.declared.Kind.the-variants.{Command, Response}
 use Rattle.types.specs.declared.Refusal.{Refusal}
-use Rattle.types.specs.declared.Refusal.the-variants.{BufferOrRecord, InputLength, HeaderOverrun, HeaderElement, WrongIdentifier, TooManyParts, OtherTotal, OtherOctets, MalformedPacket, CipherMismatch, PacketHeader, PacketTooLong, ReferenceWidth, PartNumber, CheckMismatch, ReportCapacity, ReservedSpi, UnknownEdition, SlotNumber}
+use Rattle.types.specs.declared.Refusal.the-variants.{BufferOrRecord, InputLength, HeaderOverrun, HeaderElement, WrongIdentifier, TooManyParts, OtherTotal, OtherOctets, MalformedPacket, CipherMismatch, PacketHeader, PacketTooLong, ReferenceWidth, PartNumber, CheckMismatch, ReportCapacity, ReservedSpi, CounterTable, UnknownEdition, SlotNumber}
 use Rattle.types.specs.declared.Tar.{Tar}
 use Rattle.types.specs.declared.Cntr.{Cntr}
 use Rattle.types.specs.declared.Clear.{Clear}
@@ -49,6 +49,10 @@ use Rattle.types.specs.declared.Making.the-variants as making
 use Rattle.types.specs.declared.Made.{Made}
 use Rattle.types.specs.declared.Taken.{Taken}
 use Rattle.series.specs.Taking as taking
+use Rattle.types.specs.declared.Judgement.{Judgement}
+use Rattle.types.specs.declared.Judgement.the-variants as judgement
+use Rattle.types.specs.declared.JudgedCounter.{JudgedCounter}
+use Rattle.counters.specs.Counters.{noCounters, Assessed, toldJudgement}
 use Rattle.types.specs.declared.WrittenPart.{WrittenPart}
 use Rattle.types.specs.declared.WrittenPart.the-variants as writtenPart
 use Rattle.split.specs.Splitting as split
@@ -57,24 +61,46 @@ use Rattle.types.specs.declared.Outgoing.the-variants as outgoing
 use Rattle.types.specs.declared.Announcing.{Announcing}
 use Rattle.types.specs.declared.Announcing.the-variants as announcing
 use Rattle.report.specs.Reporting as report
-use Rattle.demands.specs.Tightness.{Tight, toldBuilt, toldMade, toldPart, toldReport, toldHanded, toldTaken, Tellings, PlainPromises, One, Promises}
+use Rattle.demands.specs.Tightness.{Tight, toldBuilt, toldMade, toldPart, toldReport, toldHanded, toldTaken, toldAssessed, Tellings, PlainPromises, One, Promises}
 
 -- what can be read back is told of one outcome only
 tight : {O P : Type 0} (told : O → P) (back : P → O) → ((r : O) → back (told r) ≡ r) → Tight told
 tight told back recovers rule r₁ r₂ e₁ e₂ = sym (recovers r₁) ∙ ap back (e₁ ∙ sym e₂) ∙ recovers r₂
 
 -- ---- refusals
--- by number, counted from 1; where no refusal has the number, the first stands for it
+-- the first of a list that has that number
+refusalFrom : ℕ → List Refusal → Refusal
+refusalFrom n [] = BufferOrRecord
+refusalFrom n (r ∷ l) = cond (eqb (refusalNumber r) n) r (refusalFrom n l)
+
 refusalOf : ℕ → Refusal
 refusalOf n =
-    cond (eqb n 25) SlotNumber
-    (cond (eqb n 20) UnknownEdition
-    (getD
-    (BufferOrRecord ∷ InputLength ∷ HeaderOverrun ∷ HeaderElement ∷ WrongIdentifier ∷ TooManyParts ∷ OtherTotal ∷ OtherOctets ∷ MalformedPacket ∷ CipherMismatch ∷ PacketHeader ∷ PacketTooLong ∷ ReferenceWidth ∷ PartNumber ∷ CheckMismatch ∷ ReportCapacity ∷ ReservedSpi ∷ [])
-    (n - 1) BufferOrRecord))
+    refusalFrom n
+    (
+    BufferOrRecord ∷
+    InputLength ∷
+    HeaderOverrun ∷
+    HeaderElement ∷
+    WrongIdentifier ∷
+    TooManyParts ∷
+    OtherTotal ∷
+    OtherOctets ∷
+    MalformedPacket ∷
+    CipherMismatch ∷
+    PacketHeader ∷
+    PacketTooLong ∷
+    ReferenceWidth ∷
+    PartNumber ∷
+    CheckMismatch ∷
+    ReportCapacity ∷
+    ReservedSpi ∷
+    CounterTable ∷
+    UnknownEdition ∷
+    SlotNumber ∷
+    [])
 
 refusal-back : (r : Refusal) → refusalOf (refusalNumber r) ≡ r
-unfolding refusalOf
+unfolding refusalFrom refusalOf
 refusal-back BufferOrRecord = refl
 refusal-back InputLength = refl
 refusal-back HeaderOverrun = refl
@@ -92,6 +118,7 @@ refusal-back PartNumber = refl
 refusal-back CheckMismatch = refl
 refusal-back ReportCapacity = refl
 refusal-back ReservedSpi = refl
+refusal-back CounterTable = refl
 refusal-back UnknownEdition = refl
 refusal-back SlotNumber = refl
 
@@ -234,6 +261,23 @@ taken-back : (r : Taken × (List ℕ × List ℕ)) → takenOf (toldTaken r) ≡
 unfolding takenOf
 taken-back (r, (cells, output)) = ap (λ (x : Answer). (record { answer = x; «record» = r .«record» }, (cells, output))) (answer-back (r .answer))
 
+-- ---- what judging a counter leaves
+judgementOf : Outcome ℕ → Judgement
+judgementOf (refused n) = judgement.Refused (refusalOf n)
+judgementOf (gives s) = judgement.Status s
+
+judgement-back : (r : Judgement) → judgementOf (toldJudgement r) ≡ r
+unfolding judgementOf
+judgement-back (judgement.Status s) = refl
+judgement-back (judgement.Refused r) = ap judgement.Refused (refusal-back r)
+
+assessedOf : Assessed → JudgedCounter
+assessedOf a = record { answer = judgementOf (a .answer); counters = a .counters }
+
+assessed-back : (r : JudgedCounter) → assessedOf (toldAssessed r) ≡ r
+unfolding assessedOf
+assessed-back r = ap (λ (x : Judgement). record { answer = x; counters = r .counters }) (judgement-back (r .answer))
+
 -- ---- calls between crates
 judgedOf : Outcome ℕ → Judged
 judgedOf (refused n) = judged.Refused (refusalOf n)
@@ -282,6 +326,7 @@ tellings = record {
   write-message-and-page = tight toldPart partOf part-back;
   write-report = tight toldReport reportOf report-back;
   response-announces = tight report.toldAnnouncing announcingOf announcing-back;
+  judge-counter = tight toldAssessed assessedOf assessed-back;
   judge = tight toldJudged judgedOf judged-back;
   walk = tight toldWalked walkedOf walked-back;
   packet-size = tight toldSize sizeOf size-back;
@@ -334,6 +379,8 @@ promises = record {
   write-page = λ serial identifier dcs number p out. tellings .write-message-and-page _;
   write-report = λ spi capacity edition p out. tellings .write-report _;
   response-announces = λ p. tellings .response-announces _;
+  no-counters = plain noCounters;
+  judge-counter = λ c p. tellings .judge-counter _;
 }
   where
     put-one : {r₁ r₂ : Bool × List ℕ} → r₁ .0 ≡ r₂ .0 → r₁ .1 ≡ r₂ .1 → r₁ ≡ r₂

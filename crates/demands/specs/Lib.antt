@@ -12,6 +12,7 @@ pub mod Tightness
 pub mod Reached
 pub mod RoundTrips
 pub mod Checked
+pub mod Counters
 pub mod SplitTaken
 pub mod Delivery
 pub mod Reports

@@ -23,6 +23,8 @@ use Rattle.series.specs.Taking.{State, refusedBy, state, refuse, completes}
 use Rattle.series.specs.CaseLaws.{Bears}
 use Rattle.series.specs.Calls.{Input, read, takeInput}
 use Rattle.split.specs.Splitting.{written, writeMessage, writePage}
+use Rattle.types.specs.declared.Counters.{Counters}
+use Rattle.counters.specs.Counters.{judgeCounter}
 use Rattle.demands.specs.Runs.{Slots}
 use Rattle.report.specs.Reporting.{mostReport, reported, writeReport, responseAnnounces}
 
@@ -72,6 +74,10 @@ abbrev pub ReportRefused : Type 0
 ReportRefused =
     (edition spi capacity : ℕ) (p buffer : List ℕ) (number : ℕ)
     → writeReport edition spi capacity p buffer .0 ≡ outcome.refused number → writeReport edition spi capacity p buffer .1 ≡ buffer
+
+-- ---- judging a counter: the table stays as it was
+abbrev pub JudgingRefused : Type 0
+JudgingRefused = (c : Counters) (p : List ℕ) (number : ℕ) → judgeCounter c p .answer ≡ outcome.refused number → judgeCounter c p .counters ≡ c
 
 -- ---- parsing: "with empty parts where parts are shown"
 pub record NothingShown (k : Kind) (c : Bool) (p : List ℕ) : Type 0 where

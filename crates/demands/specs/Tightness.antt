@@ -44,6 +44,9 @@ use Rattle.types.specs.declared.Spi.{Spi}
 use Rattle.types.specs.declared.Outgoing.{Outgoing}
 use Rattle.types.specs.declared.Announcing.{Announcing}
 use Rattle.report.specs.Reporting as report
+use Rattle.types.specs.declared.Counters.{Counters}
+use Rattle.types.specs.declared.JudgedCounter.{JudgedCounter}
+use Rattle.counters.specs.Counters as counters
 
 -- whatever the rule says, two outcomes of which that is told are the same
 abbrev pub Tight : {Outcome Paper : Type 0} → (Outcome → Paper) → Type 0
@@ -72,6 +75,10 @@ toldMade r = beside (toldMaking (r .answer)) (r .record)
 abbrev pub toldTaken : Taken × (List ℕ × List ℕ) → taking.After
 toldTaken (r, (cells, output)) = taking.after (taking.toldAnswer (r .answer)) (r .record) cells output
 
+-- an answer with the table of counters
+abbrev pub toldAssessed : JudgedCounter → counters.Assessed
+toldAssessed r = counters.assessed (counters.toldJudgement (r .answer)) (r .counters)
+
 -- ---- no two outcomes are told alike
 pub record Tellings : Type 0 where
   -- Refusal::number
@@ -93,6 +100,8 @@ pub record Tellings : Type 0 where
   pub write-report : Tight toldReport
   -- response_announces
   pub response-announces : Tight report.toldAnnouncing
+  -- judge_counter
+  pub judge-counter : Tight toldAssessed
   -- and of the calls between crates: judge, packet_size, hand_out; and of what walk answers, though its promise is the answer itself
   pub judge : Tight toldJudged
   pub walk : Tight toldWalked
@@ -165,3 +174,6 @@ pub record Promises : Type 0 where
   pub write-report : (spi : Spi) (capacity edition : ℕ) (p out : List ℕ)
       → One (λ (r : Outgoing × List ℕ). toldReport r ≡ report.writeReport edition (spi .1) capacity p out)
   pub response-announces : (p : List ℕ) → One (λ (r : Announcing). report.toldAnnouncing r ≡ report.responseAnnounces p)
+  -- counters
+  pub no-counters : One (λ (r : Counters). r ≡ counters.noCounters)
+  pub judge-counter : (c : Counters) (p : List ℕ) → One (λ (r : JudgedCounter). toldAssessed r ≡ counters.judgeCounter c p)
