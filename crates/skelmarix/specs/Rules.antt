@@ -1,5 +1,5 @@
 -- The rules that a user's contract cites, under one name, and nothing of its own: a number of two octets, the sizes of buffers, a record, a fresh
--- one, what making one comes to, what taking comes to, and what reporting comes to.
+-- one, what making one comes to, what taking comes to, what reporting comes to, an empty table of counters, and what judging a counter comes to.
 pub use Rattle.octets.specs.Octets.{numberOf}
 pub use Rattle.packet.specs.Packets.{mostOctets}
 pub use Rattle.series.specs.Cells.{cellsSize}
@@ -8,3 +8,5 @@ pub use Rattle.series.specs.Taking.{State, state, Answer, After, after, toldAns
 unfoldable pub use Rattle.series.specs.Taking.{takeMessage, takePage}
 pub use Rattle.report.specs.Reporting.{Going, nothingGoes, inReport, announced, submitted, Reported, reported, toldOutgoing, announcesAnother, toldAnnouncing}
 unfoldable pub use Rattle.report.specs.Reporting.{writeReport, responseAnnounces}
+pub use Rattle.counters.specs.Counters.{noCounters, Assessed, assessed, toldJudgement}
+unfoldable pub use Rattle.counters.specs.Counters.{judgeCounter}

@@ -1,9 +1,10 @@
 // Skelmarix: secured packets over short messages and cell broadcast pages. What a user names of the crates below, and nothing of its own; the
 // calls that only these crates make of one another stay with them.
 
-// Sizes of what a caller lends, and the most slots of a record.
+// Sizes of what a caller lends, the most slots of a record, and the entries of a table of counters.
 pub use types::CELLS_OCTETS;
 pub use types::CHECKSUM_OCTETS;
+pub use types::COUNTER_ENTRIES;
 pub use types::PACKET_OCTETS;
 pub use types::PAGE_OCTETS;
 pub use types::SLOT_OCTETS;
@@ -47,6 +48,14 @@ pub use types::ResponseBody;
 pub use types::Spi;
 pub use types::Tar;
 pub use types::Written;
+
+// Counters: the counter of a command, judged against the one that is stored.
+pub use counters::judge_counter;
+pub use counters::no_counters;
+pub use types::CounterEntry;
+pub use types::Counters;
+pub use types::JudgedCounter;
+pub use types::Judgement;
 
 // Arrivals: what one message or page brings.
 pub use arrival::message::read_message;
