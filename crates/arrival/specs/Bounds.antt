@@ -146,8 +146,8 @@ module _ (q : List ℕ → Type 0) (T : Concatenation → Type 0) (narrow : (o :
 abbrev pub Says : Concatenation → Type 0
 Says c = eqb (c .total) 0 || referenceFits (c .width) (c .reference) ≡ true
 
-says : (es : List Item) → EachItem Octets es → Says (concatenationOf es)
-says es b =
+items-say : (es : List Item) → EachItem Octets es → Says (concatenationOf es)
+items-say es b =
     last-holds Octets Says (λ o b. rw (lt-ltb (getD o 0 0) 256 (b 0)) (or-true (eqb (getD o 1 0) 0)))
     (λ o b. rw (lt-ltb (numberOf (getD o 0 0) (getD o 1 0)) 65536 (number-fits (getD o 0 0) (getD o 1 0) (b 0) (b 1))) (or-true (eqb (getD o 2 0) 0)))
     es noConcatenation b refl
@@ -261,7 +261,7 @@ module _ (k : Kind) (sender : ℕ) (ud : List ℕ) (x : Brought) (r : MessageRea
   unfolding summary
   seen-says b =
       let f : OctetsIn (some (r .es)) = rw (r .readable) at (octets-in 0 (headerOctets ud) (octets-header ud b)) in
-      says (r .es) f
+      items-say (r .es) f
 
   seen-width : HasWidth (seen .concatenation)
   unfolding summary

@@ -182,7 +182,7 @@ module _ (line : List ℕ) (b : Bench) (cells output : List ℕ) (z : Heard) (t 
     pub leaves-unclear : not (l .understood) ≡ true → z .bench ≡ b → z .understood ≡ false → LineLeaves line b cells output z cells output
     leaves-unclear f g h =
         let no : lineRead line .understood ≡ false = sym understood-is ∙ not-true (l .understood) f in
-        rule.other (sym is ∙ e) (rw no) (h ∙ sym no) (rw (no, g))
+        rule.elsewhere (sym is ∙ e) (rw no) (h ∙ sym no) (rw (no, g))
 
     module _ (f : not (l .understood) ≡ false) where
       yes : lineRead line .understood ≡ true
@@ -201,7 +201,7 @@ module _ (line : List ℕ) (b : Bench) (cells output : List ℕ) (z : Heard) (t 
           let values-is : l .values ≡ lineRead line .values = ap (λ (s : Gathered). s .values) (r .is) in
           let count-is : l .count ≡ lineRead line .count = ap (λ (s : Gathered). s .count) (r .is) in
           let octets-is : take (l .end) line′ ≡ lineRead line .octets = ap (λ (s : Gathered). s .octets) (r .is) in
-          rule.other (sym is ∙ e) (rw (yes, ← row-is) (ne-eqb (l .row) 13 g)) (h ∙ sym yes) (rw (yes, ← row-is, ← count-is, ← values-is, ← octets-is) k)
+          rule.elsewhere (sym is ∙ e) (rw (yes, ← row-is) (ne-eqb (l .row) 13 g)) (h ∙ sym yes) (rw (yes, ← row-is, ← count-is, ← values-is, ← octets-is) k)
 
 -- a line that is understood may write to the buffer; one that is not has not
 module _ (u : Bool) (before : List ℕ) where

@@ -112,7 +112,7 @@ pub data LineLeaves (line : List ℕ) (b : Bench) (cells output : List ℕ) (r :
   nothing : silent line ≡ true → r .understood ≡ true → held (r .bench) cells′ output′ ≡ held b cells output → LineLeaves line b cells output r cells′ output′
   slot : silent line ≡ false → putsSlot (lineRead line) ≡ true → SlotPut (lineRead line) b r → cells′ ≡ cells → output′ ≡ output
       → LineLeaves line b cells output r cells′ output′
-  other : silent line ≡ false → putsSlot (lineRead line) ≡ false → r .understood ≡ lineRead line .understood
+  elsewhere : silent line ≡ false → putsSlot (lineRead line) ≡ false → r .understood ≡ lineRead line .understood
       → held (r .bench) cells′ output′ ≡ heldAfter (lineRead line) (held b cells output) → LineLeaves line b cells output r cells′ output′
 
 -- a line that is not understood leaves the buffer as it was

@@ -24,7 +24,7 @@ use Rattle.slots.specs.FrontLaws.{front-here, front-there, freed-here, freed-th
 use Rattle.formed.specs.Laws.{Formed, array-holds}
 use Rattle.series.specs.Cells.{joinedOctets}
 use Rattle.series.specs.Taking.{State, After, Answer, state, kept, heldAlready, packet, refusedBy, Step, acted, handOut, step, takePart, taken, unfit, refuse}
-use Rattle.series.specs.CaseLaws.{Bears, Lacks, Case, other-total, other-octets, again, last, more, opens, displaces, case-of}
+use Rattle.series.specs.CaseLaws.{Bears, Lacks, Case, other-total, other-octets, held-so, last, more, takes-free, displaces, case-of}
 use Rattle.series.specs.Calls.{Input, octetsOf, read, takeInput}
 use Rattle.demands.specs.Lists.{elemKey, addKey, dropKey}
 use Rattle.demands.specs.Runs.{Slots, Call, Store, fresh, outcome, left, run, Each}
@@ -117,12 +117,12 @@ module _ (n : ℕ) (pos : Slots n) (k : Kind) where
       by-case : (st : Step) → Case n s X total number o st → Left (acted n s X total number o st)
       by-case st (other-total j b t) = (held, unmarked (refusedBy 7) refl)
       by-case st (other-octets j b t h c) = (held, unmarked (refusedBy 8) refl)
-      by-case st (again j b t h c) =
+      by-case st (held-so j b t h c) =
           (fronted xs w′ l held j (b .inside) (slotAt xs j) l (λ Y h. h) (held j (b .inside) (b .used)), unmarked (heldAlready j) refl)
       by-case st (last j b t h c) = finished j b (packetIn (s .rec .kind) (ofPages X) total (joinedOctets (s .cells) (slotAt xs j) j number o))
       by-case st (more j b t h c) =
           (comes j (b .inside) (withPart (slotAt xs j) number (length o)) (b .key), unmarked (kept j false) refl)
-      by-case st (opens j lacks a z lower) =
+      by-case st (takes-free j lacks a z lower) =
           (comes j a (withPart (opened X total) number (length o)) refl, unmarked (kept j false) refl)
       by-case st (displaces j lacks a z all) = (comes j a (withPart (opened X total) number (length o)) refl, (λ slot e. crowded xs w′ l held X lacks all))
 

@@ -150,7 +150,7 @@ pub pages-delivered : (n : ℕ) → Slots n → PagesDelivered n
 pages-delivered n pos serial identifier dcs P small each-dcs octets formed inside most =
     let f = formed-facts Command P formed in
     delivered n pos Command (pageKey serial identifier) P (split.pages (length P)) (split.contentOf P)
-    (λ number. page (split.page serial identifier (dcs number) P number)) (pages-split serial identifier dcs P inside most) (omega (arith, f .whole, page-ends (length P))) formed
+    (λ number. page (split.pageWritten serial identifier (dcs number) P number)) (pages-split serial identifier dcs P inside most) (omega (arith, f .whole, page-ends (length P))) formed
     (λ m low high. page-octets serial identifier (dcs m) P m small inside (each-dcs m) most high octets)
 
 -- ---- what writing gives

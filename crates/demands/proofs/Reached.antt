@@ -31,15 +31,15 @@ use Rattle.formed.specs.Laws.{Formed, array-holds}
 use Rattle.series.specs.Cells.{cellsSize}
 use Rattle.series.specs.Taking as Taking
 use Rattle.series.specs.Taking.{State, After, state, after, Step, acted, step, takePart, taken, packet}
-use Rattle.series.specs.CaseLaws.{Lacks, Case, other-total, other-octets, again, last, more, opens, displaces, case-of}
+use Rattle.series.specs.CaseLaws.{Lacks, Case, other-total, other-octets, held-so, last, more, takes-free, displaces, case-of}
 use Rattle.series.specs.Calls.{Input, octetsOf, read}
 use Rattle.demands.specs.Examples.{M}
 use Rattle.demands.specs.Lists.{elemKey, addKey}
 use Rattle.demands.specs.Runs.{Slots, Call, Store, fresh, outcome, left, run, Proper}
 use Rattle.demands.specs.Wake as window
-use Rattle.demands.specs.Wake.{messages, History, historyAfter, counts, follow, Fair, begin}
+use Rattle.demands.specs.Wake.{in-messages, History, historyAfter, counts, follow, Fair, begin}
 use Rattle.demands.specs.Reached as reached
-use Rattle.demands.specs.Reached.{key, halves, call, first, second, others, crowd, cells, Met, Missed, longest, longestPaged, asMessage, asPage, inOrder, Longest}
+use Rattle.demands.specs.Reached.{key, halves, callFrom, first, second, strangers, crowd, cells, Met, Missed, longest, longestPaged, asMessage, asPage, inOrder, Longest}
 use Rattle.demands.specs.SplitTaken.{listed, keyUnder}
 use Rattle.demands.specs.Delivery.{Brings, nothing-more, next}
 use Rattle.demands.proofs.Calls.{isPage, taking, fresh-free, Kept, kept-proper, kept-fresh}
@@ -115,10 +115,10 @@ module _ (n : ℕ) (good : Slots n) (b : ℕ) where
     by-case : (z : Step) → Case n s X total number (drop start (octetsOf (c .input))) z → Came (acted n s X total number (drop start (octetsOf (c .input))) z)
     by-case z (other-total i a t) = absurd (lacks i (a .inside) (a .used) (a .key))
     by-case z (other-octets i a t h e) = absurd (lacks i (a .inside) (a .used) (a .key))
-    by-case z (again i a t h e) = absurd (lacks i (a .inside) (a .used) (a .key))
+    by-case z (held-so i a t h e) = absurd (lacks i (a .inside) (a .used) (a .key))
     by-case z (last i a t h e) = absurd (lacks i (a .inside) (a .used) (a .key))
     by-case z (more i a t h e) = absurd (lacks i (a .inside) (a .used) (a .key))
-    by-case z (opens i none-held l e lower) = came i (withPart (opened X total) number (length (drop start (octetsOf (c .input))))) false _ l refl (to-free e lower)
+    by-case z (takes-free i none-held l e lower) = came i (withPart (opened X total) number (length (drop start (octetsOf (c .input))))) false _ l refl (to-free e lower)
     by-case z (displaces i none-held l e all) = came i (withPart (opened X total) number (length (drop start (octetsOf (c .input))))) true _ l refl (to-last e all)
 
     it-came : Came (outcome n st c)
@@ -217,10 +217,10 @@ module _ (n : ℕ) (good : Slots n) (b : ℕ) where
   one-more m st f c p X total number start reads follows =
       key-more st (f .kept) c p X total number start reads (λ j l u e. omega (arith, follows, f .low j l u, ap (λ (z : Key). z .sender) e)) m f follows
 
-  proper : (sender : ℕ) (ud : List ℕ) → allBelow (length ud) (λ i. ltb (getD ud i 0) 256) ≡ true → Proper (call b sender ud)
+  proper : (sender : ℕ) (ud : List ℕ) → allBelow (length ud) (λ i. ltb (getD ud i 0) 256) ≡ true → Proper (callFrom b sender ud)
   proper sender ud e = record { output = length-replicate mostOctets b; octets = octets-of ud e }
 
-  proper-other : (sender : ℕ) → Proper (reached.other b sender)
+  proper-other : (sender : ℕ) → Proper (reached.stranger b sender)
   unfolding allBelow
   proper-other sender = proper sender _ refl
 
@@ -240,7 +240,7 @@ module _ (n : ℕ) (good : Slots n) (b : ℕ) where
   unfolding elementsAfter summary judged readMessage
   reads-second = refl
 
-  reads-other : (sender : ℕ) → read Command (reached.other b sender .input) ≡ reading.gives (part (keyOf sender) 2 2 6)
+  reads-other : (sender : ℕ) → read Command (reached.stranger b sender .input) ≡ reading.gives (part (keyOf sender) 2 2 6)
   unfolding elementsAfter summary judged readMessage
   reads-other sender = refl
 
@@ -252,12 +252,12 @@ module _ (n : ℕ) (good : Slots n) (b : ℕ) where
     filled = λ j l h. absurd (omega arith);
   }
 
-  crowd-others : (m k : ℕ) (st : Store) → Crowd k st → Crowd (m + k) (run n st (others b (suc k) m))
+  crowd-others : (m k : ℕ) (st : Store) → Crowd k st → Crowd (m + k) (run n st (strangers b (suc k) m))
   crowd-others zero k st f = let e : k ≡ 0 + k = omega arith in subst (λ (o : ℕ). Crowd o st) e f
   crowd-others (suc m) k st f =
       let e : m + suc k ≡ suc m + k = omega arith in
-      subst (λ (o : ℕ). Crowd o (run n st (others b (suc k) (suc m)))) e
-      (crowd-others m (suc k) (left (outcome n st (reached.other b (suc k)))) (one-more k st f (reached.other b (suc k)) (proper-other (suc k)) (keyOf (suc k)) 2 2 6 (reads-other (suc k)) refl))
+      subst (λ (o : ℕ). Crowd o (run n st (strangers b (suc k) (suc m)))) e
+      (crowd-others m (suc k) (left (outcome n st (reached.stranger b (suc k)))) (one-more k st f (reached.stranger b (suc k)) (proper-other (suc k)) (keyOf (suc k)) 2 2 6 (reads-other (suc k)) refl))
 
   after-crowd : (m : ℕ) → Crowd (m + 1) (run n (fresh n Command (cells n b)) (crowd b m))
   after-crowd m =
@@ -297,8 +297,8 @@ module _ (n : ℕ) (good : Slots n) (b : ℕ) where
     arrived : q .arrived ≡ 1 ∷ []
     few : length (q .othersSince) ≤ m
 
-  waits-more : (m sender : ℕ) (q : History) → 2 ≤ sender → Waits m q → Waits (suc m) (seen q (reached.other b sender))
-  waits-more m sender q l w = rw (reads-other sender, ne-eqb sender 1 (λ e. omega arith)) (record { arrived = w .arrived; few = go (counts (outcome n (q .store) (reached.other b sender))) })
+  waits-more : (m sender : ℕ) (q : History) → 2 ≤ sender → Waits m q → Waits (suc m) (seen q (reached.stranger b sender))
+  waits-more m sender q l w = rw (reads-other sender, ne-eqb sender 1 (λ e. omega arith)) (record { arrived = w .arrived; few = go (counts (outcome n (q .store) (reached.stranger b sender))) })
     where
       go : (t : Bool) → length (cond t (addKey (keyOf sender) (q .othersSince)) (q .othersSince)) ≤ suc m
       go true = let more-keys : length (addKey (keyOf sender) (q .othersSince)) ≤ suc (length (q .othersSince)) = add-most (keyOf sender) (q .othersSince) in omega (arith, w .few)
@@ -311,7 +311,7 @@ module _ (n : ℕ) (good : Slots n) (b : ℕ) where
   fair-first q z total number start e o =
       let (k, t, m, s) = same-part (sym reads-first ∙ e) in record { counted = sym t; brought = rw (← m, ← s); fewOthers = λ ne. absurd (ne z) }
 
-  fair-other : (q : History) (sender : ℕ) → 2 ≤ sender → Fair′ q (reached.other b sender)
+  fair-other : (q : History) (sender : ℕ) → 2 ≤ sender → Fair′ q (reached.stranger b sender)
   fair-other q sender l total number start e o = absurd (omega (arith, ap (λ (k : Key). k .sender) (same-part (sym (reads-other sender) ∙ e) .0)))
 
   fair-second : (q : History) → length (q .othersSince) < n → Fair′ q (second b)
@@ -319,16 +319,16 @@ module _ (n : ℕ) (good : Slots n) (b : ℕ) where
       let (k, t, m, s) = same-part (sym reads-second ∙ e) in record { counted = sym t; brought = rw (← m, ← s); fewOthers = λ ne. few }
 
   -- the others and the second part, where k others were before
-  fair-rest : (m sender k : ℕ) (q : History) → 2 ≤ sender → Waits k q → k + m < n → Along n Command key 2 (Fair n Command key M halves) q (others b sender m ++ second b ∷ [])
+  fair-rest : (m sender k : ℕ) (q : History) → 2 ≤ sender → Waits k q → k + m < n → Along n Command key 2 (Fair n Command key M halves) q (strangers b sender m ++ second b ∷ [])
   fair-rest zero sender k q l w few = (fair-second q (omega (arith, w .few)), tt)
-  fair-rest (suc m) sender k q l w few = (fair-other q sender l, fair-rest m (suc sender) (suc k) (seen q (reached.other b sender)) (omega arith) (waits-more k sender q l w) (omega arith))
+  fair-rest (suc m) sender k q l w few = (fair-other q sender l, fair-rest m (suc sender) (suc k) (seen q (reached.stranger b sender)) (omega arith) (waits-more k sender q l w) (omega arith))
 
-  waits-all : (m sender k : ℕ) (q : History) → 2 ≤ sender → Waits k q → Waits (m + k) (follow n Command key q (others b sender m))
+  waits-all : (m sender k : ℕ) (q : History) → 2 ≤ sender → Waits k q → Waits (m + k) (follow n Command key q (strangers b sender m))
   waits-all zero sender k q l w = let e : k ≡ 0 + k = omega arith in subst (λ (o : ℕ). Waits o q) e w
   waits-all (suc m) sender k q l w =
       let e : m + suc k ≡ suc m + k = omega arith in
-      subst (λ (o : ℕ). Waits o (follow n Command key q (others b sender (suc m)))) e
-      (waits-all m (suc sender) (suc k) (seen q (reached.other b sender)) (omega arith) (waits-more k sender q l w))
+      subst (λ (o : ℕ). Waits o (follow n Command key q (strangers b sender (suc m)))) e
+      (waits-all m (suc sender) (suc k) (seen q (reached.stranger b sender)) (omega arith) (waits-more k sender q l w))
 
   abbrev w₀ : History
   w₀ = begin n Command (cells n b) []
@@ -336,7 +336,7 @@ module _ (n : ℕ) (good : Slots n) (b : ℕ) where
   waits-first : Waits 0 (seen w₀ (first b))
   waits-first = rw reads-first (record { arrived = refl; few = omega arith })
 
-  proper-rest : (m sender : ℕ) → All Proper (others b sender m ++ second b ∷ [])
+  proper-rest : (m sender : ℕ) → All Proper (strangers b sender m ++ second b ∷ [])
   proper-rest zero sender = (proper-second, tt)
   proper-rest (suc m) sender = (proper-other sender, proper-rest m (suc sender))
 
@@ -360,7 +360,7 @@ module _ (n : ℕ) (good : Slots n) (b : ℕ) where
   starts : window.Start n Command key M halves (cells n b) [] (crowd b (n - 1) ++ second b ∷ [])
   starts = record {
     formed = refl;
-    cut = messages refl refl;
+    cut = in-messages refl refl;
     two = omega arith;
     size = length-replicate (cellsSize n) b;
     before = each Proper [] tt;

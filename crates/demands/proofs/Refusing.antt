@@ -26,7 +26,7 @@ use Rattle.formed.specs.Formed.{slotsFormed, recordFormed}
 use Rattle.formed.specs.Laws.{Formed, number-tells, number-told, formed-tells, fresh-formed, formed-told}
 use Rattle.series.specs.Cells.{cellsSize, joinedOctets}
 use Rattle.series.specs.Taking.{State, state, After, kept, heldAlready, packet, refusedBy, Step, handOut, acted, step, takePart, taken, unfit, refuse}
-use Rattle.series.specs.CaseLaws.{Case, other-total, other-octets, again, last, more, opens, displaces, case-of}
+use Rattle.series.specs.CaseLaws.{Case, other-total, other-octets, held-so, last, more, takes-free, displaces, case-of}
 use Rattle.series.specs.Calls.{Input, octetsOf, read, takeInput}
 use Rattle.split.specs.Splitting as split
 use Rattle.types.specs.declared.Counters.{Counters}
@@ -66,7 +66,7 @@ module _ (n : ℕ) (s : State) (i : Input) (number : ℕ) where
       → (st : Step) → Case n s key total which (drop start (octetsOf i)) st → Left (acted n s key total which (drop start (octetsOf i)) st)
   part-left key total which start r st (other-total j b t) e = by-number (λ z. omega arith) e
   part-left key total which start r st (other-octets j b t h c) e = by-number (λ z. omega arith) e
-  part-left key total which start r st (again j b t h c) e = not-held e
+  part-left key total which start r st (held-so j b t h c) e = not-held e
   part-left key total which start r st (last j b t h c) e =
       go (packetIn (s .rec .kind) (ofPages key) total (joinedOctets (s .cells) (slotAt (s .rec .slots) j) j which (drop start (octetsOf i)))) e
     where
@@ -75,7 +75,7 @@ module _ (n : ℕ) (s : State) (i : Input) (number : ℕ) where
           dropped (cc) j (record { key = key; total = total; which = which; start = start; brings = r; bears = b; counted = t; new = h; last = c })
       go (some p) e = not-handed e
   part-left key total which start r st (more j b t h c) e = not-kept e
-  part-left key total which start r st (opens j l k z lower) e = not-kept e
+  part-left key total which start r st (takes-free j l k z lower) e = not-kept e
   part-left key total which start r st (displaces j l k z all) e = not-kept e
 
   read-left : Formed n (s .rec .kind) (s .rec .slots) → (r : outcome.Outcome Brought) → read (s .rec .kind) i ≡ r → Left (taken n s (isPage i) (octetsOf i) r)

@@ -25,7 +25,7 @@ use Rattle.split.specs.Laws.{single-size, part-whole, parts-join, pages-join, p
 use Rattle.split.specs.ReadBack.{ownFrom, read-single, single-octets, read-part, own-octets, read-single-page, read-page, content-octets}
 use Rattle.demands.specs.Lists.{concat, complete}
 use Rattle.demands.specs.Runs.{Slots, Call}
-use Rattle.demands.specs.Wake.{Cut, messages, pages, History, begin, follow, EachWith, Fair, Served, Start, Comes}
+use Rattle.demands.specs.Wake.{Cut, in-messages, in-pages, History, begin, follow, EachWith, Fair, Served, Start, Comes}
 use Rattle.demands.specs.SplitTaken.{listed, Sent, Sending, Arrives, keyUnder, MessagesArrive, PagesArrive}
 use Rattle.demands.proofs.Lists.{concat-last}
 use Rattle.demands.proofs.Calls.{isPage}
@@ -121,7 +121,7 @@ messages-split k sender width reference P fits most = record {
   from = λ number. ownFrom k width reference P number;
   reads = λ several m low high. read-part k width reference P m sender fits most several low high;
   own = λ m. own-octets k width reference P m;
-  cut = λ formed. messages (no-page width reference fits) (concat-listed (split.partOctets width P) (split.parts width (length P)) ∙ parts-join width P);
+  cut = λ formed. in-messages (no-page width reference fits) (concat-listed (split.partOctets width P) (split.parts width (length P)) ∙ parts-join width P);
   alone-from = 3;
   alone = λ e. read-single k width reference P 1 sender e;
   alone-own = λ e. single-octets k width reference P 1 e ∙ sym (part-whole width P 1 (single-size width (length P) e));
@@ -135,7 +135,7 @@ messages-arrive n pos k sender width reference P fits most two =
 
 -- ---- pages
 pub pages-split : (serial identifier : ℕ) (dcs : ℕ → ℕ) (P : List ℕ) → identifierInRange identifier ≡ true → length P ≤ split.mostPages
-    → Splits Command (pageKey serial identifier) P (split.pages (length P)) (split.contentOf P) (λ number. page (split.page serial identifier (dcs number) P number))
+    → Splits Command (pageKey serial identifier) P (split.pages (length P)) (split.contentOf P) (λ number. page (split.pageWritten serial identifier (dcs number) P number))
 pages-split serial identifier dcs P inside most = record {
   from = λ number. pageHeader;
   reads = λ several m low high. read-page serial identifier (dcs m) P m inside most low high several;
@@ -151,10 +151,10 @@ pages-split serial identifier dcs P inside most = record {
     cut formed =
         let f = formed-facts Command P formed in
         let some : 1 ≤ length P = omega (arith, f .whole) in
-        pages refl (replicate (pageContent * split.pages (length P) - length P) 0x00) (concat-listed (split.contentOf P) (split.pages (length P)) ∙ pages-join P)
+        in-pages refl (replicate (pageContent * split.pages (length P) - length P) 0x00) (concat-listed (split.contentOf P) (split.pages (length P)) ∙ pages-join P)
         (rw (length-listed (split.contentOf P) (split.pages (length P)), le-leb (pageContent * (split.pages (length P) - 1) + 1) (length P) (page-begins (length P) some), le-leb (length P) (pageContent * split.pages (length P)) (page-ends (length P))))
 
 pub pages-arrive : (n : ℕ) → Slots n → PagesArrive n
 pages-arrive n pos serial identifier dcs P inside most two =
     arrives n pos Command (pageKey serial identifier) P (split.pages (length P)) (split.contentOf P)
-    (λ number. page (split.page serial identifier (dcs number) P number)) (pages-split serial identifier dcs P inside most) two
+    (λ number. page (split.pageWritten serial identifier (dcs number) P number)) (pages-split serial identifier dcs P inside most) two

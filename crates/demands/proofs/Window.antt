@@ -31,11 +31,11 @@ use Rattle.series.specs.PartLaws.{total-bounds}
 use Rattle.series.specs.Cells.{cellOctets, cellsSize, cellAt, cellPart, partOf, joinedOctets}
 use Rattle.series.specs.CellLaws.{part-by-length, cell-there}
 use Rattle.series.specs.Taking.{State, After, state, kept, heldAlready, after, Step, repeats, keeps, finishes, completes, acted, handOut}
-use Rattle.series.specs.CaseLaws.{Bears, Lacks, Case, other-total, other-octets, again, last, more, opens, displaces}
+use Rattle.series.specs.CaseLaws.{Bears, Lacks, Case, other-total, other-octets, held-so, last, more, takes-free, displaces}
 use Rattle.series.specs.KeepLaws.{short}
 use Rattle.demands.specs.Lists.{concat, elem, elemKey, add, addKey, complete}
 use Rattle.demands.specs.Runs.{Call, outcome}
-use Rattle.demands.specs.Wake.{Cut, messages, pages, History, counts, firstSlot, Seating, lowest-free, least-recent, later, Served, again as served-again, waits, wakes}
+use Rattle.demands.specs.Wake.{Cut, in-messages, in-pages, History, counts, firstSlot, Seating, lowest-free, least-recent, goes-on, Served, again as served-again, waits, wakes}
 use Rattle.demands.proofs.Lists.{add-old, add-not-nil, first-known, complete-add, one-short, elem-key-add, elem-key-self, length-add-key, pigeon, keys-apart, joined-parts}
 use Rattle.demands.proofs.Track.{aged-mono, closed-mono, length-short, Track, lacks-moved, track-moved, track-again, track-kept}
 
@@ -43,8 +43,8 @@ use Rattle.demands.proofs.Track.{aged-mono, closed-mono, length-short, 
 pub packet-in : (k : Kind) (K : Key) (P : List ℕ) (parts : List (List ℕ)) → wellFormed k P ≡ true → Cut K P parts
     → packetIn k (ofPages K) (length parts) (concat parts) ≡ some P
 unfolding packetIn
-packet-in k K P parts good (messages m e) = rw (m, e, good)
-packet-in k K P parts good (pages m filler e allowed) =
+packet-in k K P parts good (in-messages m e) = rw (m, e, good)
+packet-in k K P parts good (in-pages m filler e allowed) =
     let f = formed-facts k P good in
     let size : cpl P + 2 ≡ length P = f .whole in
     let a : getD (P ++ filler) 0 0 ≡ getD P 0 0 = List·getD-append P filler 0 0 (omega (arith, f .inside)) in
@@ -146,7 +146,7 @@ module _ (n : ℕ) (K : Key) (parts : List (List ℕ)) where
     pub other-part : (st : Step) → Case n s X total number o st → Phase xs (s .cells) got i since → PhaseAfter (acted n s X total number o st)
     other-part st (other-total j b t) ph = ph
     other-part st (other-octets j b t h c) ph = ph
-    other-part st (again j b t h c) ph =
+    other-part st (held-so j b t h c) ph =
         fronted k xs (s .cells) w long X ne got i since j (b .inside) (slotAt xs j) (b .key) (s .cells)
         (λ m apart a l small. part-by-length (s .cells) (slotAt (toFront xs j (slotAt xs j)) i) (slotAt xs i) i m (ap (λ (x : Slot). lengthAt x m) (front-there xs j (slotAt xs j) i apart)))
         (λ few tr. elsewhere k xs (s .cells) w long X ne got i since j (tr .bears) (b .key)) ph
@@ -155,7 +155,7 @@ module _ (n : ℕ) (K : Key) (parts : List (List ℕ)) where
         (freed-phase k xs (s .cells) w long X ne got i since j (b .inside) (b .used) (b .key) ph)
     other-part st (more j b t h c) ph =
         kept-phase j (b .inside) false (slotAt xs j) (b .key) (λ few tr. elsewhere k xs (s .cells) w long X ne got i since j (tr .bears) (b .key)) ph
-    other-part st (opens j lacks l z lower) ph =
+    other-part st (takes-free j lacks l z lower) ph =
         kept-phase j l false (opened X total) refl (λ few tr p. omega (arith, tr .bears .used, ap (λ (m : ℕ). slotAt xs m .rank) p)) ph
     other-part st (displaces j lacks l z all) ph =
         kept-phase j l true (opened X total) refl
@@ -171,7 +171,7 @@ pub record Serves (n : ℕ) (k : Kind) (K : Key) (P : List ℕ) (parts : List (L
 named : {n : ℕ} {rank : ℕ → ℕ} {i : ℕ} {d : Bool} (q : History) → Seating n rank q i d → firstSlot (q .arrived) (kept i d) (q .slot) ≡ i
 named q (lowest-free z l f lower) = rw z
 named q (least-recent z l all) = rw z
-named {i = i} q (later begun is) = first-known (q .arrived) (kept i false) (q .slot) begun ∙ sym is
+named {i = i} q (goes-on begun is) = first-known (q .arrived) (kept i false) (q .slot) begun ∙ sym is
 
 module _ (n : ℕ) (k : Kind) (K : Key) (P : List ℕ) (parts : List (List ℕ)) (good : wellFormed k P ≡ true) (cut : Cut K P parts) (two : 2 ≤ length parts)
     (q : History) (c : Call) (kind : q .store .rec .kind ≡ k) (w : Formed n k (q .store .rec .slots)) (long : length (q .store .cells) ≡ cellsSize n)
@@ -279,7 +279,7 @@ module _ (n : ℕ) (k : Kind) (K : Key) (P : List ℕ) (parts : List (List ℕ))
     fine-known st (other-total j b t) = absurd (t (here j b .total))
     fine-known st (other-octets j b t h e) =
         let t′ = here j b in absurd (e (t′ .octets number (adm .low) high (sym (t′ .held number (adm .low) high) ∙ h) ∙ sym brought))
-    fine-known st (again j b t h e) = let t′ = here j b in fine-again j (is j b) since t′ (sym (t′ .held number (adm .low) high) ∙ h)
+    fine-known st (held-so j b t h e) = let t′ = here j b in fine-again j (is j b) since t′ (sym (t′ .held number (adm .low) high) ∙ h)
     fine-known st (last j b t h e) = let t′ = here j b in fine-last j (is j b) since t′ (sym (t′ .held number (adm .low) high) ∙ h) (sym (told j (is j b) since t′) ∙ e)
     fine-known st (more j b t h e) =
         let t′ = here j b in
@@ -287,8 +287,8 @@ module _ (n : ℕ) (k : Kind) (K : Key) (P : List ℕ) (parts : List (List ℕ))
         fine-kept j (b .inside) false (slotAt own j) (b .key) t (u .lengths) (u .marks) (t′ .held)
         (λ m a l d. (length-short k (slotAt own j) u m a l, t′ .octets m a l d))
         (sym (t′ .held number (adm .low) high) ∙ h) (sym (told j (is j b) since t′) ∙ e)
-        (later begun (is j b))
-    fine-known st (opens j lacks l z lower) = absurd (lacks (q .slot) (tr .bears .inside) (tr .bears .used) (tr .bears .key))
+        (goes-on begun (is j b))
+    fine-known st (takes-free j lacks l z lower) = absurd (lacks (q .slot) (tr .bears .inside) (tr .bears .used) (tr .bears .key))
     fine-known st (displaces j lacks l z all) = absurd (lacks (q .slot) (tr .bears .inside) (tr .bears .used) (tr .bears .key))
 
   -- no slot bears the key yet
@@ -306,10 +306,10 @@ module _ (n : ℕ) (k : Kind) (K : Key) (P : List ℕ) (parts : List (List ℕ))
     pub fine-first : (st : Step) → Case n s K (length parts) number o st → Fine (acted n s K (length parts) number o st)
     fine-first st (other-total j b t) = absurd (nobody j b)
     fine-first st (other-octets j b t h e) = absurd (nobody j b)
-    fine-first st (again j b t h e) = absurd (nobody j b)
+    fine-first st (held-so j b t h e) = absurd (nobody j b)
     fine-first st (last j b t h e) = absurd (nobody j b)
     fine-first st (more j b t h e) = absurd (nobody j b)
-    fine-first st (opens j l a z lower) = fine-new j a false (lowest-free none-yet a z lower)
+    fine-first st (takes-free j l a z lower) = fine-new j a false (lowest-free none-yet a z lower)
     fine-first st (displaces j l a z all) = fine-new j a true (least-recent none-yet a (λ m h. (all m h, last-rank m h)))
       where
         last-rank : (m : ℕ) → m < n → slotAt own m .rank ≤ slotAt own j .rank

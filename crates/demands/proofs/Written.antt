@@ -15,7 +15,7 @@ use Rattle.types.specs.declared.Kind.the-variants.{Command, Response}
 use Rattle.arrival.specs.Message.{mostUserData}
 use Rattle.arrival.specs.Page.{pageContent, identifierInRange}
 use Rattle.arrival.specs.Keys.{room, referenceFits}
-use Rattle.split.specs.Splitting.{mostSingle, parts, partFrom, partOctets, identifierElement, concatenationElement, elementsOf, userData, mostSplit, mostPages, pages, contentOf, parameter, page}
+use Rattle.split.specs.Splitting.{mostSingle, parts, partFrom, partOctets, identifierElement, concatenationElement, elementsOf, userData, mostSplit, mostPages, pages, contentOf, parameter, pageWritten}
 use Rattle.split.specs.Laws.{most-parts, user-data-fits, most-pages}
 
 -- ---- octets put together
@@ -101,8 +101,8 @@ user-data-octets k width reference p number fits most high o =
 
 -- ---- pages
 pub page-octets : (serial identifier dcs : ℕ) (p : List ℕ) (number : ℕ) → serial < 65536 → identifierInRange identifier ≡ true → dcs < 256 → length p ≤ mostPages
-    → number ≤ pages (length p) → Octets p → Octets (page serial identifier dcs p number)
-unfolding page contentOf
+    → number ≤ pages (length p) → Octets p → Octets (pageWritten serial identifier dcs p number)
+unfolding pageWritten contentOf
 page-octets serial identifier dcs p number a inside d most high o =
     let i = leb-true identifier 0x109F (both (leb 0x1080 identifier) (leb identifier 0x109F) inside .1) in
     let own : List ℕ = take pageContent (drop (pageContent * (number - 1)) p) in

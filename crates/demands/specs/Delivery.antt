@@ -70,11 +70,11 @@ PagesDelivered n =
     (serial identifier : ℕ) (dcs : ℕ → ℕ) (P : List ℕ) → serial < 65536 → ((number : ℕ) → dcs number < 256) → Octets P → wellFormed Command P ≡ true
     → identifierInRange identifier ≡ true → length P ≤ split.mostPages
     → Delivered n Command (pageKey serial identifier) P (split.pages (length P)) (split.contentOf P)
-    (λ number. page (split.page serial identifier (dcs number) P number))
+    (λ number. page (split.pageWritten serial identifier (dcs number) P number))
 
 abbrev pub PagesWritten : Type 0
 PagesWritten =
     (serial identifier dcs : ℕ) (P : List ℕ) → wellFormed Command P ≡ true → identifierInRange identifier ≡ true → length P ≤ split.mostPages
     → (number : ℕ) → 1 ≤ number → number ≤ split.pages (length P) → (buffer : List ℕ) → length buffer ≡ pageOctets
     → split.writePage serial identifier dcs P number buffer
-    ≡ split.writesPart (gives (record { total = split.pages (length P); octets = split.page serial identifier dcs P number })) buffer
+    ≡ split.writesPart (gives (record { total = split.pages (length P); octets = split.pageWritten serial identifier dcs P number })) buffer

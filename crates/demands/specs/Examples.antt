@@ -37,8 +37,8 @@ abbrev Ends : Type 0
 Ends = ℕ → List ℕ → List ℕ → After
 
 -- record, cells and output as they were
-abbrev refuses : ℕ → Ends
-refuses number n cells output = after (refusedBy number) (freshRecord n Command) cells output
+abbrev refusing : ℕ → Ends
+refusing number n cells output = after (refusedBy number) (freshRecord n Command) cells output
 
 -- a packet handed out: its length, the packet at the start of the output, and the rest of that buffer as it was
 abbrev pub handsOut : List ℕ → Ends
@@ -95,22 +95,22 @@ examples =
     -- a
     of (0x02 ∷ 0x70 ∷ 0x00 ∷ M) handsOutM
     -- b, c, d
-    ∷ of (0x02 ∷ 0x70 ∷ 0x00 ∷ m 0x0F 0x0D) (refuses 9)
-    ∷ of (0x02 ∷ 0x70 ∷ 0x00 ∷ m 0x0E 0x0C) (refuses 9)
-    ∷ of (0x02 ∷ 0x70 ∷ 0x00 ∷ m 0x0E 0x0E) (refuses 9)
+    ∷ of (0x02 ∷ 0x70 ∷ 0x00 ∷ m 0x0F 0x0D) (refusing 9)
+    ∷ of (0x02 ∷ 0x70 ∷ 0x00 ∷ m 0x0E 0x0C) (refusing 9)
+    ∷ of (0x02 ∷ 0x70 ∷ 0x00 ∷ m 0x0E 0x0E) (refusing 9)
     -- e, f
-    ∷ of [] (refuses 3)
-    ∷ of (0x00 ∷ []) (refuses 5)
+    ∷ of [] (refusing 3)
+    ∷ of (0x00 ∷ []) (refusing 5)
     -- g, h
-    ∷ of (0x05 ∷ 0x00 ∷ 0x03 ∷ 0x2A ∷ 0x02 ∷ []) (refuses 3)
+    ∷ of (0x05 ∷ 0x00 ∷ 0x03 ∷ 0x2A ∷ 0x02 ∷ []) (refusing 3)
     ∷ of (0x05 ∷ 0x00 ∷ 0x03 ∷ 0x2A ∷ 0x02 ∷ 0x02 ∷ []) keepsH
     -- i, j
     ∷ of (0x07 ∷ 0x00 ∷ 0x03 ∷ 0x2A ∷ 0x00 ∷ 0x01 ∷ 0x70 ∷ 0x00 ∷ M) handsOutM
-    ∷ of (0x05 ∷ 0x00 ∷ 0x03 ∷ 0x2A ∷ 0x11 ∷ 0x02 ∷ []) (refuses 6)
+    ∷ of (0x05 ∷ 0x00 ∷ 0x03 ∷ 0x2A ∷ 0x11 ∷ 0x02 ∷ []) (refusing 6)
     -- m, n, o
     ∷ ofPage 0x23 keepsM
     ∷ ofPage 0x30 handsOutM
-    ∷ ofPage 0x32 (refuses 4)
+    ∷ ofPage 0x32 (refusing 4)
     ∷ []
 
 -- the claim about an entry: with n slots, and with cells and an output of the right lengths, the call comes to that

@@ -38,29 +38,29 @@ abbrev pub asMessage : ℕ → Input
 asMessage number = message 1 (split.userData Command 8 0x2A longest number)
 
 abbrev pub asPage : ℕ → Input
-asPage number = page (split.page 0 0x1080 0x96 longestPaged number)
+asPage number = page (split.pageWritten 0 0x1080 0x96 longestPaged number)
 
 module _ (b : ℕ) where
-  abbrev pub call : ℕ → List ℕ → Call
-  call sender ud = record { input = message sender ud; output = replicate mostOctets b }
+  abbrev pub callFrom : ℕ → List ℕ → Call
+  callFrom sender ud = record { input = message sender ud; output = replicate mostOctets b }
 
   abbrev pub first : Call
-  first = call 1 (0x07 ∷ 0x00 ∷ 0x03 ∷ 0x2A ∷ 0x02 ∷ 0x01 ∷ 0x70 ∷ 0x00 ∷ take 8 M)
+  first = callFrom 1 (0x07 ∷ 0x00 ∷ 0x03 ∷ 0x2A ∷ 0x02 ∷ 0x01 ∷ 0x70 ∷ 0x00 ∷ take 8 M)
 
   abbrev pub second : Call
-  second = call 1 (0x05 ∷ 0x00 ∷ 0x03 ∷ 0x2A ∷ 0x02 ∷ 0x02 ∷ drop 8 M)
+  second = callFrom 1 (0x05 ∷ 0x00 ∷ 0x03 ∷ 0x2A ∷ 0x02 ∷ 0x02 ∷ drop 8 M)
 
   -- part 2 of 2 of another sender, without octets of its own; and m of them in a row, each of a sender of its own
-  abbrev pub other : ℕ → Call
-  other sender = call sender (0x05 ∷ 0x00 ∷ 0x03 ∷ 0x2A ∷ 0x02 ∷ 0x02 ∷ [])
+  abbrev pub stranger : ℕ → Call
+  stranger sender = callFrom sender (0x05 ∷ 0x00 ∷ 0x03 ∷ 0x2A ∷ 0x02 ∷ 0x02 ∷ [])
 
-  abbrev pub others : ℕ → ℕ → List Call
-  others sender zero = []
-  others sender (suc m) = other sender ∷ others (suc sender) m
+  abbrev pub strangers : ℕ → ℕ → List Call
+  strangers sender zero = []
+  strangers sender (suc m) = stranger sender ∷ strangers (suc sender) m
 
   -- the first part, and then m other keys
   abbrev pub crowd : ℕ → List Call
-  crowd m = first ∷ others 2 m
+  crowd m = first ∷ strangers 2 m
 
   -- the parts 1 to t, in order
   abbrev pub inOrder : ℕ → (ℕ → Input) → List Call

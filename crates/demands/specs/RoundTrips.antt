@@ -30,7 +30,7 @@ use Rattle.arrival.specs.Arrivals.{single, part}
 use Rattle.arrival.specs.Message.{messageKey, readMessage}
 use Rattle.arrival.specs.Page.{pageContent, pageHeader, pageKey, readPage, identifierInRange}
 use Rattle.arrival.specs.Keys.{referenceFits}
-use Rattle.split.specs.Splitting.{parts, partOctets, userData, mostSplit, pages, contentOf, page, mostPages}
+use Rattle.split.specs.Splitting.{parts, partOctets, userData, mostSplit, pages, contentOf, pageWritten, mostPages}
 use Rattle.split.specs.ReadBack.{ownFrom, says}
 
 -- ---- packets
@@ -138,10 +138,10 @@ SplitMessages =
     → MessagesRead k width reference p sender
 
 pub record PagesRead (serial identifier dcs : ℕ) (p : List ℕ) : Type 0 where
-  pub alone : (number : ℕ) → 1 ≤ number → number ≤ pages (length p) → pages (length p) ≡ 1 → readPage Command (page serial identifier dcs p number) ≡ gives (single pageHeader)
+  pub alone : (number : ℕ) → 1 ≤ number → number ≤ pages (length p) → pages (length p) ≡ 1 → readPage Command (pageWritten serial identifier dcs p number) ≡ gives (single pageHeader)
   pub each : (number : ℕ) → (pages (length p) ≡ 1 → ⊥) → 1 ≤ number → number ≤ pages (length p)
-      → readPage Command (page serial identifier dcs p number) ≡ gives (part (pageKey serial identifier) (pages (length p)) number pageHeader)
-  pub octets : (number : ℕ) → drop pageHeader (page serial identifier dcs p number) ≡ contentOf p number
+      → readPage Command (pageWritten serial identifier dcs p number) ≡ gives (part (pageKey serial identifier) (pages (length p)) number pageHeader)
+  pub octets : (number : ℕ) → drop pageHeader (pageWritten serial identifier dcs p number) ≡ contentOf p number
   pub joins : joined (contentOf p) (pages (length p)) ≡ p ++ replicate (pageContent * pages (length p) - length p) 0x00
 
 abbrev pub SplitPages : Type 0

@@ -64,4 +64,4 @@ abbrev pub PagesArrive : ℕ → Type 0
 PagesArrive n =
     (serial identifier : ℕ) (dcs : ℕ → ℕ) (P : List ℕ) → identifierInRange identifier ≡ true → length P ≤ split.mostPages → 2 ≤ split.pages (length P)
     → Arrives n Command (pageKey serial identifier) P (split.pages (length P)) (split.contentOf P)
-    (λ number. page (split.page serial identifier (dcs number) P number))
+    (λ number. page (split.pageWritten serial identifier (dcs number) P number))

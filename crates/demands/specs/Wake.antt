@@ -24,8 +24,8 @@ use Rattle.demands.specs.Runs.{Call, Store, fresh, outcome, left, run, P
 
 -- "cut into 2 to 16 parts": joined in order they are the packet; for pages "as few pages as hold it, then filler"
 pub data Cut (K : Key) (P : List ℕ) (parts : List (List ℕ)) : Type 0 where
-  messages : ofPages K ≡ false → concat parts ≡ P → Cut K P parts
-  pages : ofPages K ≡ true → (filler : List ℕ) → concat parts ≡ P ++ filler → pagesAllow (length parts) (length P) ≡ true → Cut K P parts
+  in-messages : ofPages K ≡ false → concat parts ≡ P → Cut K P parts
+  in-pages : ofPages K ≡ true → (filler : List ℕ) → concat parts ≡ P ++ filler → pagesAllow (length parts) (length P) ≡ true → Cut K P parts
 
 -- What was seen before a call: what the calls before left; the numbers that calls with the key have brought, and the slot that the first of
 -- them was answered with; and the other keys that calls answered "kept" or "held already" have borne since the last call with the key.
@@ -53,7 +53,7 @@ firstSlot (m ∷ got) answer was = was
 pub data Seating (n : ℕ) (rank : ℕ → ℕ) (w : History) (i : ℕ) : Bool → Type 0 where
   lowest-free : w .arrived ≡ [] → i < n → rank i ≡ 0 → ((j : ℕ) → j < i → 0 < rank j) → Seating n rank w i false
   least-recent : w .arrived ≡ [] → i < n → ((j : ℕ) → j < n → (0 < rank j) × (rank j ≤ rank i)) → Seating n rank w i true
-  later : (w .arrived ≡ [] → ⊥) → i ≡ w .slot → Seating n rank w i false
+  goes-on : (w .arrived ≡ [] → ⊥) → i ≡ w .slot → Seating n rank w i false
 
 module _ (n : ℕ) (k : Kind) (K : Key) where
   -- What is seen after a call. Which call bears a key is told by reading its octets, never by its answer.

@@ -37,13 +37,13 @@ module _ (n : ℕ) (s : State) (key : Key) (total number : ℕ) (octets : List �
     other-total : (i : ℕ) → Bears n (s .rec .slots) key i → (slotAt (s .rec .slots) i .total ≡ total → ⊥) → Case (refuses 7)
     other-octets : (i : ℕ) → Bears n (s .rec .slots) key i → slotAt (s .rec .slots) i .total ≡ total → heldAt (slotAt (s .rec .slots) i) number ≡ true
         → (cellPart (s .cells) (slotAt (s .rec .slots) i) i number ≡ octets → ⊥) → Case (refuses 8)
-    again : (i : ℕ) → Bears n (s .rec .slots) key i → slotAt (s .rec .slots) i .total ≡ total → heldAt (slotAt (s .rec .slots) i) number ≡ true
+    held-so : (i : ℕ) → Bears n (s .rec .slots) key i → slotAt (s .rec .slots) i .total ≡ total → heldAt (slotAt (s .rec .slots) i) number ≡ true
         → cellPart (s .cells) (slotAt (s .rec .slots) i) i number ≡ octets → Case (repeats i)
     last : (i : ℕ) → Bears n (s .rec .slots) key i → slotAt (s .rec .slots) i .total ≡ total → heldAt (slotAt (s .rec .slots) i) number ≡ false
         → completes (slotAt (s .rec .slots) i) number ≡ true → Case (finishes i)
     more : (i : ℕ) → Bears n (s .rec .slots) key i → slotAt (s .rec .slots) i .total ≡ total → heldAt (slotAt (s .rec .slots) i) number ≡ false
         → completes (slotAt (s .rec .slots) i) number ≡ false → Case (keeps i false (slotAt (s .rec .slots) i))
-    opens : (i : ℕ) → Lacks n (s .rec .slots) key → i < n → slotAt (s .rec .slots) i .rank ≡ 0 → ((j : ℕ) → j < i → 0 < slotAt (s .rec .slots) j .rank)
+    takes-free : (i : ℕ) → Lacks n (s .rec .slots) key → i < n → slotAt (s .rec .slots) i .rank ≡ 0 → ((j : ℕ) → j < i → 0 < slotAt (s .rec .slots) j .rank)
         → Case (keeps i false (opened key total))
     displaces : (i : ℕ) → Lacks n (s .rec .slots) key → i < n → slotAt (s .rec .slots) i .rank ≡ n
         → ((j : ℕ) → j < n → 0 < slotAt (s .rec .slots) j .rank) → Case (keeps i true (opened key total))
@@ -59,7 +59,7 @@ module _ (n : ℕ) (s : State) (key : Key) (total number : ℕ) (octets : List �
 
       case-octets : at i .total ≡ total → heldAt (at i) number ≡ true → (c : Bool) → sameOctets (cellPart (s .cells) (at i) i number) octets ≡ c
           → Case (cond c (repeats i) (refuses 8))
-      case-octets t h true e = again i b t h (same-true (cellPart (s .cells) (at i) i number) octets e)
+      case-octets t h true e = held-so i b t h (same-true (cellPart (s .cells) (at i) i number) octets e)
       case-octets t h false e = other-octets i b t h (same-false (cellPart (s .cells) (at i) i number) octets e)
 
       case-held : at i .total ≡ total → (c : Bool) → heldAt (at i) number ≡ c
@@ -82,7 +82,7 @@ module _ (n : ℕ) (s : State) (key : Key) (total number : ℕ) (octets : List �
           let (i, l, e) = last-rank n (λ j. at j .rank) (w .ranks) (w .low) all in absurd (eqb-false (at i .rank) n (f i l) e)
 
       case-new : (r : Option ℕ) → FoundIn n isFree (s .rec .slots) r → Case (stepNew n s key total number octets r)
-      case-new r (hit-in i l e f) = opens i lacks l (eqb-true (at i .rank) 0 e) (λ j m. not-free j (f j m))
+      case-new r (hit-in i l e f) = takes-free i lacks l (eqb-true (at i .rank) 0 e) (λ j m. not-free j (f j m))
       case-new r (miss-in f) = case-least (λ j l. not-free j (f j l)) (findIn n (isLeastRecent n) (s .rec .slots)) (find-in? n (isLeastRecent n) (s .rec .slots) enough)
 
     case-for : (r : Option ℕ) → FoundIn n (bears key) (s .rec .slots) r → Case (stepFor n s key total number octets r)

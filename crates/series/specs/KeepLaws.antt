@@ -22,7 +22,7 @@ use Rattle.slots.specs.Slots.{slotAt, opened, atRank, withPart, heldAt, freed, 
 use Rattle.formed.specs.Formed.{slotFormed}
 use Rattle.formed.specs.Laws.{Formed, UsedSlot, slot-tells, slot-front, front-formed, free-formed}
 use Rattle.series.specs.PartLaws.{total-bounds, ready-held, ready-opened, part-more}
-use Rattle.series.specs.CaseLaws.{Bears, Case, other-total, other-octets, again, last, more, opens, displaces, case-of}
+use Rattle.series.specs.CaseLaws.{Bears, Case, other-total, other-octets, held-so, last, more, takes-free, displaces, case-of}
 use Rattle.series.specs.Cells.{cellOctets, cellsSize, joinedOctets}
 use Rattle.series.specs.CellLaws.{cells-size}
 use Rattle.series.specs.Taking.{completes, State, After, Step, refuses, repeats, keeps, finishes, handOut, acted, step, takePart, taken}
@@ -96,7 +96,7 @@ module _ (n : ℕ) (s : State) (w : Sound n (s .rec) (s .cells)) where
     case-sound : (st : Step) → Case n s key total number octets st → SoundAfter n (acted n s key total number octets st)
     case-sound st (other-total i b t) = w
     case-sound st (other-octets i b t h c) = w
-    case-sound st (again i b t h c) = record {
+    case-sound st (held-so i b t h c) = record {
       number = w .number;
       formed = front-formed n k xs (w .formed) i (b .inside) (slotAt xs i)
           (slot-front k (slotAt xs i) (was-used i b))
@@ -107,7 +107,7 @@ module _ (n : ℕ) (s : State) (w : Sound n (s .rec) (s .cells)) where
         handed-sound n s (withSlots (s .rec) (freed xs i)) (packetIn k (ofPages key) total (joinedOctets (s .cells) (slotAt xs i) i number octets))
         (record { number = w .number; formed = free-formed n k xs (w .formed) i (b .inside) (b .used); size = w .size })
     case-sound st (more i b t h c) = kept-sound i (b .inside) false (slotAt xs i) (b .key) (more-formed i b t h c) (alone-there i b)
-    case-sound st (opens i lacks l z lower) = kept-sound i l false (opened key total) refl opened-formed (λ j m ne u q. lacks j m u q)
+    case-sound st (takes-free i lacks l z lower) = kept-sound i l false (opened key total) refl opened-formed (λ j m ne u q. lacks j m u q)
     case-sound st (displaces i lacks l z all) = kept-sound i l true (opened key total) refl opened-formed (λ j m ne u q. lacks j m u q)
 
     pub part-sound : SoundAfter n (takePart n s key total number octets)

@@ -41,8 +41,8 @@ unfolding aged closed
 kept-free true r = refl
 kept-free false r = rw (le-ltb r 0 (omega arith))
 
-free-ranked : (g : ℕ → ℕ) (x : Slot) → g 0 ≡ 0 → x .rank ≡ 0 → x ≡ reranked g x
-free-ranked g x z e = ap (λ q. atRank q x) (e ∙ sym (ap g e ∙ z))
+free-reranked : (g : ℕ → ℕ) (x : Slot) → g 0 ≡ 0 → x .rank ≡ 0 → x ≡ reranked g x
+free-reranked g x z e = ap (λ q. atRank q x) (e ∙ sym (ap g e ∙ z))
 
 -- those past the first n are free, so it comes to the same whether they are counted in or not
 first-all : (g : ℕ → ℕ) → g 0 ≡ 0 → (n : ℕ) (xs : List Slot) → ((j : ℕ) → n ≤ j → slotAt xs j .rank ≡ 0) → firstRanked g n xs ≡ map (reranked g) xs
@@ -50,7 +50,7 @@ unfolding firstRanked
 first-all g z zero [] free = refl
 first-all g z zero (x ∷ xs) free =
     let tail : xs ≡ map (reranked g) xs = first-all g z zero xs (λ j l. free (suc j) (omega arith)) in
-    λ i. free-ranked g x z (free 0 (omega arith)) i ∷ tail i
+    λ i. free-reranked g x z (free 0 (omega arith)) i ∷ tail i
 first-all g z (suc n) [] free = refl
 first-all g z (suc n) (x ∷ xs) free = ap (λ l. reranked g x ∷ l) (first-all g z n xs (λ j l. free (suc j) (omega arith)))
 

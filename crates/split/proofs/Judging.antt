@@ -19,7 +19,7 @@ use Rattle.arrival.specs.Page.{pageOctets, identifierInRange}
 use Rattle.arrival.specs.Keys.{referenceFits}
 use Rattle.split.specs.declared.Due.{Due}
 use Rattle.split.specs.declared.Due.the-variants as due
-use Rattle.split.specs.Splitting.{Piece, written, writesPart, parts, mostSplit, noSuchPart, userData, writing, writeMessage, pages, page, mostPages, writingPage, writePage}
+use Rattle.split.specs.Splitting.{Piece, written, writesPart, parts, mostSplit, noSuchPart, userData, writing, writeMessage, pages, pageWritten, mostPages, writingPage, writePage}
 use Rattle.split.specs.Laws.{most-parts, most-pages}
 use Rattle.split.specs.Within.{Writable, PageReady, Standing, toldDue, judging, judgingPage}
 
@@ -208,10 +208,10 @@ module _ (identifier : ℕ) (p : List ℕ) (number : ℕ) where
   module _ (serial dcs : ℕ) (x : Due) (buffer : List ℕ) (e : toldDue x ≡ judgingPage identifier p number (length buffer)) where
     pub page-refused : (r : Refusal) → x ≡ due.Refused r → written (refused (refusalNumber r)) buffer ≡ writePage serial identifier dcs p number buffer
     unfolding writePage writingPage
-    page-refused r f = call-refused (pageTests (length buffer)) x (pagePiece (page serial identifier dcs p number)) e r buffer f
+    page-refused r f = call-refused (pageTests (length buffer)) x (pagePiece (pageWritten serial identifier dcs p number)) e r buffer f
 
-    pub page-written : (total size : ℕ) (after : List ℕ) → x ≡ due.Total total → Standing (page serial identifier dcs p number) size buffer after
+    pub page-written : (total size : ℕ) (after : List ℕ) → x ≡ due.Total total → Standing (pageWritten serial identifier dcs p number) size buffer after
         → written (gives (record { total = total; size = size })) after ≡ writePage serial identifier dcs p number buffer
     unfolding writePage writingPage
     page-written total size after f s =
-        call-written (pageTests (length buffer)) x (pagePiece (page serial identifier dcs p number)) e total size buffer after f s
+        call-written (pageTests (length buffer)) x (pagePiece (pageWritten serial identifier dcs p number)) e total size buffer after f s

@@ -7,7 +7,7 @@ use lib.ListN.{length, take, drop, replicate, length-append, length-take, length
 use lib.Seq.{take-at}
 use Rattle.types.specs.declared.Pair.{Pair}
 use Rattle.octets.specs.Octets.{pairOf, afterPut}
-use Rattle.split.specs.Splitting.{contentOf, parameter, page}
+use Rattle.split.specs.Splitting.{contentOf, parameter, pageWritten}
 use Rattle.split.specs.Laws.{page-length}
 use Rattle.split.specs.Within.{HeaderPut, PageReady, Standing, pageHead}
 use Rattle.split.proofs.Headers.{header-put}
@@ -32,13 +32,13 @@ module _ (serial identifier dcs param : ℕ) (p : List ℕ) (total number size :
 
   -- the header and the octets, with 00 up to the page's end, are the page
   is-page : param ≡ parameter total number
-      → (pageHead serial identifier dcs param ++ own) ++ replicate (82 - length own) 0 ≡ page serial identifier dcs p number
-  unfolding page contentOf
+      → (pageHead serial identifier dcs param ++ own) ++ replicate (82 - length own) 0 ≡ pageWritten serial identifier dcs p number
+  unfolding pageWritten contentOf
   is-page e = rw (e, o, r .all)
 
   pub page-stands : (d₃ : List ℕ) → param ≡ parameter total number
       → d₃ ≡ take (6 + length own) d₂ ++ replicate (length d₂ - (6 + length own)) 0
-      → Standing (page serial identifier dcs p number) 88 d d₃
+      → Standing (pageWritten serial identifier dcs p number) 88 d d₃
   page-stands d₃ e f =
       let a : take (6 + length own) d₂ ≡ pageHead serial identifier dcs param ++ own =
       rw (both-stand .stands) (take-at (pageHead serial identifier dcs param ++ own) _ (6 + length own) (sym (both-stand .long))) in

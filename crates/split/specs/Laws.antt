@@ -19,7 +19,7 @@ use Rattle.types.specs.Refusals.{gives}
 use Rattle.packet.specs.Packets.{wellFormed}
 use Rattle.arrival.specs.Page.{pageOctets, pageContent, identifierInRange}
 use Rattle.arrival.specs.Keys.{room, referenceFits}
-use Rattle.split.specs.Splitting.{mostSingle, parts, partFrom, partOctets, identifierElement, headerOf, userData, mostSplit, writing, pages, contentOf, parameter, page, mostPages, writingPage}
+use Rattle.split.specs.Splitting.{mostSingle, parts, partFrom, partOctets, identifierElement, headerOf, userData, mostSplit, writing, pages, contentOf, parameter, pageWritten, mostPages, writingPage}
 
 -- one message, or several
 pub by-size : {P : Type 0} (size : ℕ) → (size ≤ mostSingle → P) → (mostSingle < size → P) → P
@@ -184,8 +184,8 @@ pub content-length : (p : List ℕ) (number : ℕ) → length (contentOf p numbe
 unfolding contentOf
 content-length p number = simp (length-append, length-replicate, length-take) (omega arith)
 
-pub page-length : (serial identifier dcs : ℕ) (p : List ℕ) (number : ℕ) → length (page serial identifier dcs p number) ≡ pageOctets
-unfolding page
+pub page-length : (serial identifier dcs : ℕ) (p : List ℕ) (number : ℕ) → length (pageWritten serial identifier dcs p number) ≡ pageOctets
+unfolding pageWritten
 page-length serial identifier dcs p number = rw (content-length p number)
 
 -- "the last filled with 00"
@@ -227,7 +227,7 @@ message-given k width reference p number buffer lent fits formed most o l =
 
 pub page-given : (serial identifier dcs : ℕ) (p : List ℕ) (number : ℕ) (buffer : List ℕ) → length buffer ≡ pageOctets
     → identifierInRange identifier ≡ true → wellFormed Command p ≡ true → length p ≤ mostPages → 1 ≤ number → number ≤ pages (length p)
-    → writingPage serial identifier dcs p number buffer ≡ gives (record { total = pages (length p); octets = page serial identifier dcs p number })
+    → writingPage serial identifier dcs p number buffer ≡ gives (record { total = pages (length p); octets = pageWritten serial identifier dcs p number })
 unfolding writingPage
 page-given serial identifier dcs p number buffer lent inside formed most o l =
     rw (eq-eqb (length buffer) pageOctets lent, inside, formed, le-ltb mostPages (length p) most, ne-eqb number 0 (omega arith), le-ltb (pages (length p)) number l)

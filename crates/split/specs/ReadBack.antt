@@ -23,7 +23,7 @@ use Rattle.header.specs.Header.{elements, elementsAfter, summary}
 use Rattle.arrival.specs.Message.{mostUserData, mostParts, alone, judged, messageKey, whereRead, readMessage}
 use Rattle.arrival.specs.Page.{pageContent, pageHeader, identifierInRange, pageKey, readPage}
 use Rattle.arrival.specs.Keys.{referenceFits}
-use Rattle.split.specs.Splitting.{parts, partOctets, elementsOf, headerOf, userData, mostSplit, pages, contentOf, parameter, page, mostPages}
+use Rattle.split.specs.Splitting.{parts, partOctets, elementsOf, headerOf, userData, mostSplit, pages, contentOf, parameter, pageWritten, mostPages}
 use Rattle.octets.specs.Tests.{by-test}
 use Rattle.split.specs.Laws.{some-part, single-size, most-parts, part-whole, identifier-length, user-data-fits, most-pages, content-length}
 
@@ -139,25 +139,25 @@ module _ (serial identifier dcs total number : ℕ) (q : List ℕ) (full : lengt
       simp (full, n, t, ne-eqb number 0 (omega arith), ne-eqb total 0 (omega arith), le-ltb total number l, number-of-pair serial, number-of-pair identifier, inside)
 
 module _ (serial identifier dcs : ℕ) (p : List ℕ) (number : ℕ) where
-  pub content-octets : drop pageHeader (page serial identifier dcs p number) ≡ contentOf p number
-  unfolding page
+  pub content-octets : drop pageHeader (pageWritten serial identifier dcs p number) ≡ contentOf p number
+  unfolding pageWritten
   content-octets = refl
 
   -- "DCS is not judged", and it is the caller's
-  pub page-dcs : getD (page serial identifier dcs p number) 4 0 ≡ dcs
-  unfolding page
+  pub page-dcs : getD (pageWritten serial identifier dcs p number) 4 0 ≡ dcs
+  unfolding pageWritten
   page-dcs = refl
 
   module _ (inside : identifierInRange identifier ≡ true) (most : length p ≤ mostPages) (o : 1 ≤ number) (l : number ≤ pages (length p)) where
-    either-page : readPage Command (page serial identifier dcs p number)
+    either-page : readPage Command (pageWritten serial identifier dcs p number)
         ≡ cond (eqb (pages (length p)) 1) (gives (single pageHeader)) (gives (part (pageKey serial identifier) (pages (length p)) number pageHeader))
-    unfolding page
+    unfolding pageWritten
     either-page = page-read serial identifier dcs (pages (length p)) number (contentOf p number) (content-length p number) inside (most-pages (length p) most) o l
 
     -- "a single page has page parameter 11"
-    pub read-single-page : pages (length p) ≡ 1 → readPage Command (page serial identifier dcs p number) ≡ gives (single pageHeader)
+    pub read-single-page : pages (length p) ≡ 1 → readPage Command (pageWritten serial identifier dcs p number) ≡ gives (single pageHeader)
     read-single-page e = rw (either-page, eq-eqb (pages (length p)) 1 e)
 
     pub read-page : (pages (length p) ≡ 1 → ⊥)
-        → readPage Command (page serial identifier dcs p number) ≡ gives (part (pageKey serial identifier) (pages (length p)) number pageHeader)
+        → readPage Command (pageWritten serial identifier dcs p number) ≡ gives (part (pageKey serial identifier) (pages (length p)) number pageHeader)
     read-page n = rw (either-page, ne-eqb (pages (length p)) 1 n)

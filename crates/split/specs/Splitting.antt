@@ -123,8 +123,8 @@ contentOf p number = filled (take pageContent (drop (pageContent * (number - 1))
 abbrev pub parameter : ℕ → ℕ → ℕ
 parameter total number = number * 16 + total
 
-unfoldable pub page : ℕ → ℕ → ℕ → List ℕ → ℕ → List ℕ
-page serial identifier dcs p number =
+unfoldable pub pageWritten : ℕ → ℕ → ℕ → List ℕ → ℕ → List ℕ
+pageWritten serial identifier dcs p number =
     pairOf serial .0 ∷ pairOf serial .1 ∷ pairOf identifier .0 ∷ pairOf identifier .1 ∷ dcs ∷ parameter (pages (length p)) number ∷ contentOf p number
 
 -- 12: "over 1,230 in pages": as many as fifteen pages hold
@@ -139,7 +139,7 @@ writingPage serial identifier dcs p number buffer =
     refuse 9 when not (wellFormed Command p) otherwise
     refuse 12 when ltb mostPages (length p) otherwise
     refuse 14 when noSuchPart (pages (length p)) number otherwise
-    gives (record { total = pages (length p); octets = page serial identifier dcs p number })
+    gives (record { total = pages (length p); octets = pageWritten serial identifier dcs p number })
 
 unfoldable pub writePage : ℕ → ℕ → ℕ → List ℕ → ℕ → List ℕ → Written
 writePage serial identifier dcs p number buffer = writesPart (writingPage serial identifier dcs p number buffer) buffer

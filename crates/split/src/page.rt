@@ -11,7 +11,7 @@ use types::SerialNumber;
 ghost use mathlib.Core.Path.{_≡_};
 ghost use Prim.Native.Nat.{_-_, _*_, _≤_};
 ghost use lib.ListN.{length, take, drop};
-ghost use Rattle.split.specs.Splitting.{pages, parameter, page};
+ghost use Rattle.split.specs.Splitting.{pages, parameter, pageWritten};
 ghost use Rattle.split.specs.Within.{HeaderPut, PageReady, Standing, toldDue, judgingPage, pageHead};
 
 // The most octets that go in pages: the total has four bits of the page parameter.
@@ -94,7 +94,7 @@ pub(crate) fn write(
     out: &mut [u8],
 ) -> usize
     requires { ⌜ PageReady (now packet) total number (length (now out)) ⌝ }
-    ensures { λ r. ⌜ Standing (page (serial .0) (identifier .0) dcs (now (packet .entry)) number) r (now (out .entry)) (now (out .exit)) ⌝ }
+    ensures { λ r. ⌜ Standing (pageWritten (serial .0) (identifier .0) dcs (now (packet .entry)) number) r (now (out .entry)) (now (out .exit)) ⌝ }
 {
     put_header(serial, identifier, dcs, parameter(total, number), out);
     let own = own_octets(number, packet);

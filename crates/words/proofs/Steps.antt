@@ -393,15 +393,15 @@ module _ (last : Bool) (sort : ℕ) where
   module _ (s r : Line) (line : List ℕ) (at : ℕ) (t : drop at line ≡ skipped (drop (s .at) line)) (is : last ≡ isEmpty (drop at line)) (k : sort ≡ s .sorts % 16) where
     pub step-closed : (last || eqb sort 0 || eqb sort 15) ≡ true
         → ((l : List ℕ) → gathered r l ≡ rule.lineEnds (gathered s l) (eqb sort 15 || ((eqb sort 0 || eqb sort 7) && last)) (drop at l))
-        → gathered r line ≡ rule.step (gathered s line)
-    unfolding rule.step
+        → gathered r line ≡ rule.stepOn (gathered s line)
+    unfolding rule.stepOn
     step-closed e h = h line ∙ rw (← k, ← t, ← is, e)
 
     pub step-worded : (last || eqb sort 0 || eqb sort 15) ≡ false → (w : Word) (after : List ℕ)
         → wordOf w after ≡ wordRead sort (take (s .end) line) (drop at line)
         → ((l k : List ℕ) → gathered r l ≡ rule.worded (gathered s k) sort (wordOf w l))
-        → gathered r after ≡ rule.step (gathered s line)
-    unfolding rule.step
+        → gathered r after ≡ rule.stepOn (gathered s line)
+    unfolding rule.stepOn
     step-worded e w after f h = h after line ∙ ap (λ (x : WordRead). rule.worded (gathered s line) sort x) f ∙ sym (rw (← k, ← t, ← is, e))
 
 module _ (r : Line) (line after : List ℕ) (at end : ℕ) (a : r .at ≡ at) (e : r .end ≡ end) where
@@ -416,7 +416,7 @@ module _ (n : ℕ) (x : Gathered) where
   unfolding rule.steps
   stays e = rw e
 
-  goes : x .more ≡ true → rule.steps (suc n) x ≡ rule.steps n (rule.step x)
+  goes : x .more ≡ true → rule.steps (suc n) x ≡ rule.steps n (rule.stepOn x)
   unfolding rule.steps
   goes e = rw e
 
@@ -457,7 +457,7 @@ module _ (line₀ line : List ℕ) (s : Line) (k : ℕ) (u : Reading line₀ lin
     pub read-ends : not (s .more) ≡ true → Reads s line₀ line
     read-ends e = record { is = sym (stays (16 - (k + 1)) (gathered s line) (not-true (s .more) e)) ∙ next-read; inside = u .inside }
 
-    pub read-more : (r : Line) (after : List ℕ) → not (s .more) ≡ false → gathered r after ≡ rule.step (gathered s line)
+    pub read-more : (r : Line) (after : List ℕ) → not (s .more) ≡ false → gathered r after ≡ rule.stepOn (gathered s line)
         → Apart (r .end) (r .at) line after → Reading line₀ after r (k + 1)
     read-more r after e f i =
         record {

@@ -101,13 +101,13 @@ stepped s sort t =
     cond (isEmpty t || eqb sort 0 || eqb sort 15) (lineEnds s (eqb sort 15 || ((eqb sort 0 || eqb sort 7) && isEmpty t)) t)
     (worded s sort (wordRead sort (s .octets) t))
 
-unfoldable pub step : Gathered → Gathered
-step s = stepped s (s .sorts % 16) (skipped (s .text))
+unfoldable pub stepOn : Gathered → Gathered
+stepOn s = stepped s (s .sorts % 16) (skipped (s .text))
 
 -- so many words, if there are so many
 unfoldable pub steps : ℕ → Gathered → Gathered
 steps zero s = s
-steps (suc n) s = cond (s .more) (steps n (step s)) s
+steps (suc n) s = cond (s .more) (steps n (stepOn s)) s
 
 -- no line has more than fifteen words
 abbrev pub lineRead : List ℕ → Gathered

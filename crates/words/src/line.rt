@@ -153,7 +153,7 @@ fn worded(s: Line, sort: u8, w: Word) -> Line
 // One word more.
 fn step(s: Line, line: &mut [u8]) -> Line
     requires { ⌜ (s .end ≤ s .at) × (s .at ≤ length (now line)) ⌝ }
-    ensures { λ r. ⌜ gathered r (now (line .exit)) ≡ rule.step (gathered s (now (line .entry))) ⌝ }
+    ensures { λ r. ⌜ gathered r (now (line .exit)) ≡ rule.stepOn (gathered s (now (line .entry))) ⌝ }
     ensures { λ r. ⌜ Apart (r .end) (r .at) (now (line .entry)) (now (line .exit)) ⌝ }
 {
     let sort = (s.sorts % 16) as u8;
