@@ -11,7 +11,7 @@ use Rattle.octets.specs.Octets as octets
 use Rattle.octets.specs.Given as given
 use Rattle.types.specs.declared.Kind.the-variants.{Command, Response}
 use Rattle.types.specs.declared.Refusal.{Refusal}
-use Rattle.types.specs.declared.Refusal.the-variants.{BufferOrRecord, InputLength, HeaderOverrun, HeaderElement, WrongIdentifier, TooManyParts, OtherTotal, OtherOctets, MalformedPacket, CipherMismatch, PacketHeader, PacketTooLong, ReferenceWidth, PartNumber, CheckMismatch, ReportCapacity, ReservedSpi, CounterTable, UnknownEdition, SlotNumber}
+use Rattle.types.specs.declared.Refusal.the-variants.{BufferOrRecord, InputLength, HeaderOverrun, HeaderElement, WrongIdentifier, TooManyParts, OtherTotal, OtherOctets, MalformedPacket, CipherMismatch, PacketHeader, PacketTooLong, ReferenceWidth, PartNumber, CheckMismatch, ReportCapacity, ReservedSpi, BeatLimit, CounterTable, UnknownEdition, TableFull, AlreadySent, Unmatched, CaptureTooLong, SlotNumber}
 use Rattle.types.specs.declared.Tar.{Tar}
 use Rattle.types.specs.declared.Cntr.{Cntr}
 use Rattle.types.specs.declared.Clear.{Clear}
@@ -94,8 +94,13 @@ refusalOf n =
     CheckMismatch ∷
     ReportCapacity ∷
     ReservedSpi ∷
+    BeatLimit ∷
     CounterTable ∷
     UnknownEdition ∷
+    TableFull ∷
+    AlreadySent ∷
+    Unmatched ∷
+    CaptureTooLong ∷
     SlotNumber ∷
     [])
 
@@ -118,8 +123,13 @@ refusal-back PartNumber = refl
 refusal-back CheckMismatch = refl
 refusal-back ReportCapacity = refl
 refusal-back ReservedSpi = refl
+refusal-back BeatLimit = refl
 refusal-back CounterTable = refl
 refusal-back UnknownEdition = refl
+refusal-back TableFull = refl
+refusal-back AlreadySent = refl
+refusal-back Unmatched = refl
+refusal-back CaptureTooLong = refl
 refusal-back SlotNumber = refl
 
 -- ---- parsed packets

@@ -4,7 +4,7 @@ use mathlib.Core.Bool.{Bool, true, false}
 use mathlib.Core.List.{List, _++_}
 use lib.ListN.{length, drop}
 use Rattle.types.specs.declared.Refusal.{Refusal}
-use Rattle.types.specs.declared.Refusal.the-variants.{BufferOrRecord, InputLength, HeaderOverrun, HeaderElement, WrongIdentifier, TooManyParts, OtherTotal, OtherOctets, MalformedPacket, CipherMismatch, PacketHeader, PacketTooLong, ReferenceWidth, PartNumber, CheckMismatch, ReportCapacity, ReservedSpi, CounterTable, UnknownEdition, SlotNumber}
+use Rattle.types.specs.declared.Refusal.the-variants.{BufferOrRecord, InputLength, HeaderOverrun, HeaderElement, WrongIdentifier, TooManyParts, OtherTotal, OtherOctets, MalformedPacket, CipherMismatch, PacketHeader, PacketTooLong, ReferenceWidth, PartNumber, CheckMismatch, ReportCapacity, ReservedSpi, BeatLimit, CounterTable, UnknownEdition, TableFull, AlreadySent, Unmatched, CaptureTooLong, SlotNumber}
 use Rattle.types.specs.declared.Written.{Written}
 use Rattle.types.specs.declared.Written.the-variants.{Octets, Refused}
 
@@ -27,8 +27,13 @@ refusalNumber PartNumber = 14
 refusalNumber CheckMismatch = 15
 refusalNumber ReportCapacity = 16
 refusalNumber ReservedSpi = 17
+refusalNumber BeatLimit = 18
 refusalNumber CounterTable = 19
 refusalNumber UnknownEdition = 20
+refusalNumber TableFull = 21
+refusalNumber AlreadySent = 22
+refusalNumber Unmatched = 23
+refusalNumber CaptureTooLong = 24
 refusalNumber SlotNumber = 25
 
 -- what a call comes to: a refusal by its number, or what it gives

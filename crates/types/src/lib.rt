@@ -50,10 +50,20 @@ pub enum Refusal {
     ReportCapacity,
     // 17: the reserved value 11 in the low two bits of SPI's second octet. Reporting.
     ReservedSpi,
+    // 18: a beat with the limit 0. The beat.
+    BeatLimit,
     // 19: a table of counters that says that more than 16 entries are in use, or in which one TAR is named twice among them. Judging a counter.
     CounterTable,
     // 20: an edition that is neither the old nor the present one. Reporting.
     UnknownEdition,
+    // 21: a table of eight commands that all wait for their response. Sending a command.
+    TableFull,
+    // 22: a command that waits already, with the same sender, TAR and CNTR. Sending a command.
+    AlreadySent,
+    // 23: a response that equals no command that waits, in sender, TAR and CNTR. A response that came.
+    Unmatched,
+    // 24: a capture of more than 65,536 octets. Salvaging.
+    CaptureTooLong,
     // 25: a record asked for with no slots, or with more than five. Making a record.
     SlotNumber,
 }
@@ -81,8 +91,13 @@ impl Refusal {
             Refusal::CheckMismatch => 15,
             Refusal::ReportCapacity => 16,
             Refusal::ReservedSpi => 17,
+            Refusal::BeatLimit => 18,
             Refusal::CounterTable => 19,
             Refusal::UnknownEdition => 20,
+            Refusal::TableFull => 21,
+            Refusal::AlreadySent => 22,
+            Refusal::Unmatched => 23,
+            Refusal::CaptureTooLong => 24,
             Refusal::SlotNumber => 25,
         }
     }
