@@ -10,8 +10,9 @@ pub enum Kind {
 
 // Why a call was refused: its number, its condition, and the calls that give it. `Refusals.antt` has the numbers as a rule.
 pub enum Refusal {
-    // 1: a lent buffer of another length than it must have, or a record that is not well formed. Taking, building, checksum octets, writing,
-    // reporting.
+    // 1: a lent buffer of another length than it must have, a record that is not well formed, or a table of commands that says that more than 8
+    // entries are in use, or in which two of those are equal. Taking, building, checksum octets, writing, reporting, sending a command, a response
+    // that came.
     BufferOrRecord,
     // 2: user data of more than 140 octets, or a page of other than 88. Taking, reading.
     InputLength,
@@ -29,7 +30,7 @@ pub enum Refusal {
     // 8: the part is held with other octets. Taking.
     OtherOctets,
     // 9: octets that are no well-formed packet, or not of the length that its pages allow. Taking, parsing, checksum octets, writing,
-    // reporting, judging a counter.
+    // reporting, judging a counter, a response that came.
     MalformedPacket,
     // 10: a plain body although SPI says ciphered, or the other way round; checksum octets of a ciphered packet, or its counter judged. Building a
     // command, checksum octets, judging a counter.
@@ -37,7 +38,7 @@ pub enum Refusal {
     // 11: a check field, a header length or opaque octets that the header of a packet cannot have. Building.
     PacketHeader,
     // 12: a packet longer than can be carried: 2,142 octets, 2,126 with references of 16 bits, 1,230 in pages. Parsing, building, checksum
-    // octets, writing, reporting, judging a counter.
+    // octets, writing, reporting, judging a counter, a response that came.
     PacketTooLong,
     // 13: a width other than 8 and 16, or a reference that does not fit it. Writing a message.
     ReferenceWidth,
@@ -310,6 +311,49 @@ pub enum Judgement {
 pub struct JudgedCounter {
     pub answer: Judgement,
     pub counters: Counters,
+}
+
+// ---- outstanding commands
+// The most commands that a table holds.
+pub const OUTSTANDING_ENTRIES: usize = 8;
+
+// A command that was sent: the number that the caller gives to the card that answers it, as the sender of what comes from there, and the
+// command's application and counter.
+pub struct SentCommand {
+    pub sender: u32,
+    pub tar: Tar,
+    pub cntr: Cntr,
+}
+
+// The commands that wait for their response. The first `count` entries are in use, no two of them equal; the others count for nothing.
+pub struct Outstanding {
+    pub count: u8,
+    pub entries: [SentCommand; OUTSTANDING_ENTRIES],
+}
+
+// What noting a command that was sent answers.
+pub enum Sending {
+    Sent,
+    Refused(Refusal),
+}
+
+// The answer, and the table as it is afterwards.
+pub struct AfterSending {
+    pub answer: Sending,
+    pub outstanding: Outstanding,
+}
+
+// What a response that came answers: it closed its command, or the command waits for the complete response.
+pub enum Closing {
+    Closed,
+    Waiting,
+    Refused(Refusal),
+}
+
+// The answer, and the table as it is afterwards.
+pub struct AfterResponse {
+    pub answer: Closing,
+    pub outstanding: Outstanding,
 }
 
 // ---- splitting
