@@ -25,6 +25,8 @@ demand-1 = record {
   writing-a-report = refusing.report-refused;
   announcing = refusing.announcing-refused;
   judging-a-counter = refusing.judging-refused;
+  sending-a-command = refusing.sending-refused;
+  response-that-came = refusing.closing-refused;
   unfit = refusing.unfit-refused;
   making-a-record = refusing.making-refused;
 }

@@ -13,6 +13,7 @@ pub mod Along
 pub mod RoundTrips
 pub mod Checked
 pub mod Counters
+pub mod Gateway
 pub mod SplitTaken
 pub mod Written
 pub mod Delivery

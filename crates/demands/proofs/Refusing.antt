@@ -6,7 +6,7 @@ use mathlib.Core.List.{List, []}
 use mathlib.Core.Option.{Option, none, some}
 use native.Mathlib.Omega.{arith}
 use lib.ListN.{length, drop}
-use lib.Dec.{eqb, ltb}
+use lib.Dec.{eqb, ltb, leb}
 use borrow.Author.Tests.{not-false, eqb-true, eq-eqb, ne-eqb, lt-leb}
 use Rattle.octets.specs.Tests.{neither, both}
 use Rattle.types.specs.declared.Kind.{Kind}
@@ -31,8 +31,10 @@ use Rattle.series.specs.Calls.{Input, octetsOf, read, takeInput}
 use Rattle.split.specs.Splitting as split
 use Rattle.types.specs.declared.Counters.{Counters}
 use Rattle.counters.specs.Counters.{unfitCounters, judgedBy, orLeaves, judgeCounter}
+use Rattle.types.specs.declared.Outstanding.{Outstanding}
+use Rattle.gateway.specs.Gateway as gateway
 use Rattle.report.specs.Reporting as report
-use Rattle.demands.specs.Refusing.{Leaves, unaltered, dropped, TakingRefused, BuildingRefused, ChecksumRefused, WritingRefused, PageRefused, ReportRefused, JudgingRefused, ParsingRefused, AnnouncingRefused, UnfitRefused, MakingRefused}
+use Rattle.demands.specs.Refusing.{Leaves, unaltered, dropped, TakingRefused, BuildingRefused, ChecksumRefused, WritingRefused, PageRefused, ReportRefused, JudgingRefused, SendingRefused, ClosingRefused, ParsingRefused, AnnouncingRefused, UnfitRefused, MakingRefused}
 use Rattle.demands.specs.Runs.{Slots}
 use Rattle.demands.proofs.Calls.{isPage, taking-any}
 
@@ -146,6 +148,26 @@ unfolding judgeCounter
 judging-refused c p =
     table-left c (readable Command (cipheredCommand p) p (refuse 10 when cipheredCommand p otherwise refuse 19 when unfitCounters c otherwise outcome.gives (judgedBy c p)))
 
+-- ---- a command that was sent, a response that came
+stays : {A : Type 0} (t : Outstanding) (o : outcome.Outcome (A × Outstanding)) (number : ℕ) → gateway.orStays t o .0 ≡ outcome.refused number → gateway.orStays t o .1 ≡ t
+stays t (outcome.refused m) number e = refl
+stays t (outcome.gives x) number e = let z : _≡_ {A = ℕ} 0 1 = cc in absurd (omega arith)
+
+pub sending-refused : SendingRefused
+unfolding gateway.commandSent
+sending-refused t c =
+    stays t
+    (refuse 1 when gateway.unfitTable t otherwise refuse 22 when gateway.among c (gateway.awaited t) otherwise refuse 21 when leb 8 (t .count) otherwise
+    outcome.gives (tt, gateway.withCommand t c))
+
+pub closing-refused : ClosingRefused
+unfolding gateway.responseCame
+closing-refused t sender p =
+    let c = gateway.answeredBy sender p in
+    stays t
+    (refuse 1 when gateway.unfitTable t otherwise readable Response false p
+    (refuse 23 when not (gateway.among c (gateway.awaited t)) otherwise outcome.gives (gateway.fateBy (report.announcesAnother (report.statusOf p)) t c)))
+
 -- ---- parsing
 nothing : {A : Type 0} (number : ℕ) (x : A) (y : List ℕ) (a b c : Bool)
     → (refuse 9 when a otherwise refuse 12 when b otherwise refuse 15 when c otherwise outcome.gives x) ≡ outcome.refused number
@@ -166,16 +188,16 @@ parsing-refused k c p number e = record {
     none : (y : List ℕ) → shown (readable k c p (outcome.gives y)) ≡ []
     none y = nothing number (measured (fieldsOf k c p)) y (not (wellFormed k p)) (ltb mostOctets (length p)) (againstCheck k (fieldsOf k c p)) e
 
-still-refused : {A B : Type 0} (number : ℕ) (x : A) (y : B) (a b : Bool) → (refuse 9 when a otherwise refuse 12 when b otherwise outcome.gives x) ≡ outcome.refused number
-    → (refuse 9 when a otherwise refuse 12 when b otherwise outcome.gives y) ≡ outcome.refused number
-still-refused number x y true b e = cc
-still-refused number x y false true e = cc
-still-refused number x y false false e = let z : _≡_ {A = ℕ} 0 1 = cc in absurd (omega arith)
+pub still-refused : {A B : Type 0} (number : ℕ) (x : A) (o : outcome.Outcome B) (a b : Bool) → (refuse 9 when a otherwise refuse 12 when b otherwise outcome.gives x) ≡ outcome.refused number
+    → (refuse 9 when a otherwise refuse 12 when b otherwise o) ≡ outcome.refused number
+still-refused number x o true b e = cc
+still-refused number x o false true e = cc
+still-refused number x o false false e = let z : _≡_ {A = ℕ} 0 1 = cc in absurd (omega arith)
 
 pub announcing-refused : AnnouncingRefused
 unfolding parsing report.responseAnnounces
 announcing-refused p number =
-    still-refused number (measured (fieldsOf Response false p)) (report.announcesAnother (report.statusOf p)) (not (wellFormed Response p)) (ltb mostOctets (length p))
+    still-refused number (measured (fieldsOf Response false p)) (outcome.gives (report.announcesAnother (report.statusOf p))) (not (wellFormed Response p)) (ltb mostOctets (length p))
 
 -- ---- bad buffers and records
 unfit-taken : (n : ℕ) (s : State) (i : Input) → unfit n s ≡ true → takeInput n s i ≡ (refuse) 1 s

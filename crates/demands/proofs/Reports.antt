@@ -80,17 +80,17 @@ module _ (n : ℕ) (pos : Slots n) (p : List ℕ) (octets : Octets p) (formed : 
 -- ---- the announcement
 module _ (p : List ℕ) (t : Tar) (b : PlainResponse) (e : parsing Response false p ≡ gives (responseFields t (response.Plain b))) where
   -- the response is well formed, and its fields are those that parsing answered
-  formed-size : (wellFormed Response p ≡ true) × (length p ≤ mostOctets)
+  pub formed-size : (wellFormed Response p ≡ true) × (length p ≤ mostOctets)
   formed-size = let (formed, size, checked) = parsed-is-formed Response false p (responseFields t (response.Plain b)) e in (formed, size)
 
-  fixed-is : take 10 (drop 3 p) ≡ responseFixed t (b .cntr) (b .pcntr) (b .status)
+  pub fixed-is : take 10 (drop 3 p) ≡ responseFixed t (b .cntr) (b .pcntr) (b .status)
   unfolding parsing
   fixed-is =
       let z : gives (measured (fieldsOf Response false p)) ≡ gives (responseFields t (response.Plain b)) =
       sym (readable-formed Response false p (gives (measured (fieldsOf Response false p))) (formed-size .0) (formed-size .1) refl) ∙ e in
       cc
 
-  status-is : statusOf p ≡ b .status
+  pub status-is : statusOf p ≡ b .status
   status-is =
       sym (getD-take 10 (drop 3 p) 9 0 (omega arith) ∙ getD-drop 3 p 9 0) ∙ ap (λ (f : List ℕ). getD f 9 0) fixed-is
 

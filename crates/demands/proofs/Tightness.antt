@@ -53,6 +53,13 @@ use Rattle.types.specs.declared.Judgement.{Judgement}
 use Rattle.types.specs.declared.Judgement.the-variants as judgement
 use Rattle.types.specs.declared.JudgedCounter.{JudgedCounter}
 use Rattle.counters.specs.Counters.{noCounters, Assessed, toldJudgement}
+use Rattle.types.specs.declared.Sending.{Sending}
+use Rattle.types.specs.declared.Sending.the-variants as sending
+use Rattle.types.specs.declared.Closing.{Closing}
+use Rattle.types.specs.declared.Closing.the-variants as closing
+use Rattle.types.specs.declared.AfterSending.{AfterSending}
+use Rattle.types.specs.declared.AfterResponse.{AfterResponse}
+use Rattle.gateway.specs.Gateway as gateway
 use Rattle.types.specs.declared.WrittenPart.{WrittenPart}
 use Rattle.types.specs.declared.WrittenPart.the-variants as writtenPart
 use Rattle.split.specs.Splitting as split
@@ -61,7 +68,7 @@ use Rattle.types.specs.declared.Outgoing.the-variants as outgoing
 use Rattle.types.specs.declared.Announcing.{Announcing}
 use Rattle.types.specs.declared.Announcing.the-variants as announcing
 use Rattle.report.specs.Reporting as report
-use Rattle.demands.specs.Tightness.{Tight, toldBuilt, toldMade, toldPart, toldReport, toldHanded, toldTaken, toldAssessed, Tellings, PlainPromises, One, Promises}
+use Rattle.demands.specs.Tightness.{Tight, toldBuilt, toldMade, toldPart, toldReport, toldHanded, toldTaken, toldAssessed, toldSent, toldCame, Tellings, PlainPromises, One, Promises}
 
 -- what can be read back is told of one outcome only
 tight : {O P : Type 0} (told : O → P) (back : P → O) → ((r : O) → back (told r) ≡ r) → Tight told
@@ -288,6 +295,41 @@ assessed-back : (r : JudgedCounter) → assessedOf (toldAssessed r) ≡ r
 unfolding assessedOf
 assessed-back r = ap (λ (x : Judgement). record { answer = x; counters = r .counters }) (judgement-back (r .answer))
 
+-- ---- what a command that was sent, and a response that came, leave
+sendingOf : Outcome Unit → Sending
+sendingOf (refused n) = sending.Refused (refusalOf n)
+sendingOf (gives x) = sending.Sent
+
+sending-back : (r : Sending) → sendingOf (gateway.toldSending r) ≡ r
+unfolding sendingOf
+sending-back sending.Sent = refl
+sending-back (sending.Refused r) = ap sending.Refused (refusal-back r)
+
+sentOf : gateway.Settled Unit → AfterSending
+sentOf (answer, t) = record { answer = sendingOf answer; outstanding = t }
+
+sent-back : (r : AfterSending) → sentOf (toldSent r) ≡ r
+unfolding sentOf
+sent-back r = ap (λ (x : Sending). record { answer = x; outstanding = r .outstanding }) (sending-back (r .answer))
+
+closingOf : Outcome gateway.Fate → Closing
+closingOf (refused n) = closing.Refused (refusalOf n)
+closingOf (gives gateway.closed) = closing.Closed
+closingOf (gives gateway.waiting) = closing.Waiting
+
+closing-back : (r : Closing) → closingOf (gateway.toldClosing r) ≡ r
+unfolding closingOf
+closing-back closing.Closed = refl
+closing-back closing.Waiting = refl
+closing-back (closing.Refused r) = ap closing.Refused (refusal-back r)
+
+cameOf : gateway.Settled gateway.Fate → AfterResponse
+cameOf (answer, t) = record { answer = closingOf answer; outstanding = t }
+
+came-back : (r : AfterResponse) → cameOf (toldCame r) ≡ r
+unfolding cameOf
+came-back r = ap (λ (x : Closing). record { answer = x; outstanding = r .outstanding }) (closing-back (r .answer))
+
 -- ---- calls between crates
 judgedOf : Outcome ℕ → Judged
 judgedOf (refused n) = judged.Refused (refusalOf n)
@@ -337,6 +379,8 @@ tellings = record {
   write-report = tight toldReport reportOf report-back;
   response-announces = tight report.toldAnnouncing announcingOf announcing-back;
   judge-counter = tight toldAssessed assessedOf assessed-back;
+  command-sent = tight toldSent sentOf sent-back;
+  response-came = tight toldCame cameOf came-back;
   judge = tight toldJudged judgedOf judged-back;
   walk = tight toldWalked walkedOf walked-back;
   packet-size = tight toldSize sizeOf size-back;
@@ -391,6 +435,9 @@ promises = record {
   response-announces = λ p. tellings .response-announces _;
   no-counters = plain noCounters;
   judge-counter = λ c p. tellings .judge-counter _;
+  no-commands = plain gateway.noCommands;
+  command-sent = λ t sender tar cntr. tellings .command-sent _;
+  response-came = λ t sender p. tellings .response-came _;
 }
   where
     put-one : {r₁ r₂ : Bool × List ℕ} → r₁ .0 ≡ r₂ .0 → r₁ .1 ≡ r₂ .1 → r₁ ≡ r₂

@@ -13,6 +13,7 @@ pub mod Reached
 pub mod RoundTrips
 pub mod Checked
 pub mod Counters
+pub mod Gateway
 pub mod SplitTaken
 pub mod Delivery
 pub mod Reports

@@ -25,6 +25,9 @@ use Rattle.series.specs.Calls.{Input, read, takeInput}
 use Rattle.split.specs.Splitting.{written, writeMessage, writePage}
 use Rattle.types.specs.declared.Counters.{Counters}
 use Rattle.counters.specs.Counters.{judgeCounter}
+use Rattle.types.specs.declared.SentCommand.{SentCommand}
+use Rattle.types.specs.declared.Outstanding.{Outstanding}
+use Rattle.gateway.specs.Gateway.{commandSent, responseCame}
 use Rattle.demands.specs.Runs.{Slots}
 use Rattle.report.specs.Reporting.{mostReport, reported, writeReport, responseAnnounces}
 
@@ -78,6 +81,14 @@ ReportRefused =
 -- ---- judging a counter: the table stays as it was
 abbrev pub JudgingRefused : Type 0
 JudgingRefused = (c : Counters) (p : List ℕ) (number : ℕ) → judgeCounter c p .answer ≡ outcome.refused number → judgeCounter c p .counters ≡ c
+
+-- ---- a command that was sent, a response that came: "No refusal changes the table" (02, [13])
+abbrev pub SendingRefused : Type 0
+SendingRefused = (t : Outstanding) (c : SentCommand) (number : ℕ) → commandSent t c .0 ≡ outcome.refused number → commandSent t c .1 ≡ t
+
+abbrev pub ClosingRefused : Type 0
+ClosingRefused =
+    (t : Outstanding) (sender : ℕ) (p : List ℕ) (number : ℕ) → responseCame t sender p .0 ≡ outcome.refused number → responseCame t sender p .1 ≡ t
 
 -- ---- parsing: "with empty parts where parts are shown"
 pub record NothingShown (k : Kind) (c : Bool) (p : List ℕ) : Type 0 where

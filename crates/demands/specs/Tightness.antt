@@ -47,6 +47,10 @@ use Rattle.report.specs.Reporting as report
 use Rattle.types.specs.declared.Counters.{Counters}
 use Rattle.types.specs.declared.JudgedCounter.{JudgedCounter}
 use Rattle.counters.specs.Counters as counters
+use Rattle.types.specs.declared.Outstanding.{Outstanding}
+use Rattle.types.specs.declared.AfterSending.{AfterSending}
+use Rattle.types.specs.declared.AfterResponse.{AfterResponse}
+use Rattle.gateway.specs.Gateway as gateway
 
 -- whatever the rule says, two outcomes of which that is told are the same
 abbrev pub Tight : {Outcome Paper : Type 0} → (Outcome → Paper) → Type 0
@@ -79,6 +83,13 @@ toldTaken (r, (cells, output)) = taking.after (taking.toldAnswer (r .answer)) (r
 abbrev pub toldAssessed : JudgedCounter → counters.Assessed
 toldAssessed r = counters.assessed (counters.toldJudgement (r .answer)) (r .counters)
 
+-- an answer with the table of outstanding commands
+abbrev pub toldSent : AfterSending → gateway.Settled Unit
+toldSent r = gateway.settled (gateway.toldSending (r .answer)) (r .outstanding)
+
+abbrev pub toldCame : AfterResponse → gateway.Settled gateway.Fate
+toldCame r = gateway.settled (gateway.toldClosing (r .answer)) (r .outstanding)
+
 -- ---- no two outcomes are told alike
 pub record Tellings : Type 0 where
   -- Refusal::number
@@ -102,6 +113,10 @@ pub record Tellings : Type 0 where
   pub response-announces : Tight report.toldAnnouncing
   -- judge_counter
   pub judge-counter : Tight toldAssessed
+  -- command_sent
+  pub command-sent : Tight toldSent
+  -- response_came
+  pub response-came : Tight toldCame
   -- and of the calls between crates: judge, packet_size, hand_out; and of what walk answers, though its promise is the answer itself
   pub judge : Tight toldJudged
   pub walk : Tight toldWalked
@@ -177,3 +192,8 @@ pub record Promises : Type 0 where
   -- counters
   pub no-counters : One (λ (r : Counters). r ≡ counters.noCounters)
   pub judge-counter : (c : Counters) (p : List ℕ) → One (λ (r : JudgedCounter). toldAssessed r ≡ counters.judgeCounter c p)
+  -- outstanding commands
+  pub no-commands : One (λ (r : Outstanding). r ≡ gateway.noCommands)
+  pub command-sent : (t : Outstanding) (sender : ℕ) (tar : Tar) (cntr : Cntr)
+      → One (λ (r : AfterSending). toldSent r ≡ gateway.commandSent t (gateway.sentCommand sender tar cntr))
+  pub response-came : (t : Outstanding) (sender : ℕ) (p : List ℕ) → One (λ (r : AfterResponse). toldCame r ≡ gateway.responseCame t sender p)
