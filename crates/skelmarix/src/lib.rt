@@ -1,10 +1,11 @@
 // Skelmarix: secured packets over short messages and cell broadcast pages. What a user names of the crates below, and nothing of its own; the
 // calls that only these crates make of one another stay with them.
 
-// Sizes of what a caller lends, the most slots of a record, and the entries of a table of counters.
+// Sizes of what a caller lends, the most slots of a record, and the entries of a table of counters and of one of outstanding commands.
 pub use types::CELLS_OCTETS;
 pub use types::CHECKSUM_OCTETS;
 pub use types::COUNTER_ENTRIES;
+pub use types::OUTSTANDING_ENTRIES;
 pub use types::PACKET_OCTETS;
 pub use types::PAGE_OCTETS;
 pub use types::SLOT_OCTETS;
@@ -91,6 +92,17 @@ pub use types::Announcing;
 pub use types::OLD_EDITION;
 pub use types::Outgoing;
 pub use types::PRESENT_EDITION;
+
+// Outstanding commands, server side: which commands were sent, and which of them a response closes.
+pub use gateway::command_sent;
+pub use gateway::no_commands;
+pub use gateway::response_came;
+pub use types::AfterResponse;
+pub use types::AfterSending;
+pub use types::Closing;
+pub use types::Outstanding;
+pub use types::Sending;
+pub use types::SentCommand;
 
 // Octets: the first of a slice, some put into a buffer, two slices compared, a number as the pair that is on the air.
 pub use octets::number_of;
