@@ -1,17 +1,25 @@
-// How the library is used: a card takes a command that comes in three parts, out of order, reads it and answers; a server takes the answer. It
+// How the library is used: a server notes a command and sends it; a card takes it in three parts, out of order, reads it and answers, first with a
+// report that says that the response follows, and then with the response in parts; the server takes both, and the response closes the command. It
 // prints what happens.
 use libc::STDOUT_FILENO;
 use skelmarix::Answer;
 use skelmarix::CELLS_OCTETS;
 use skelmarix::Clear;
+use skelmarix::Closing;
 use skelmarix::Cntr;
 use skelmarix::Kind;
+use skelmarix::Outgoing;
+use skelmarix::Outstanding;
 use skelmarix::PACKET_OCTETS;
+use skelmarix::PRESENT_EDITION;
 use skelmarix::ParsedCommand;
 use skelmarix::Spi;
 use skelmarix::Taken;
 use skelmarix::Tar;
 use skelmarix::USER_DATA_OCTETS;
+use skelmarix::command_sent;
+use skelmarix::first_octets;
+use skelmarix::no_commands;
 use skelmarix::packet_in;
 use skelmarix::part_in;
 use skelmarix::written_in;
@@ -87,11 +95,53 @@ fn respond(command: &[u8], out: &mut [u8]) -> usize {
     }
 }
 
+// Says in a delivery report of 140 octets what becomes of the response, and takes the report as the server does.
+fn report(spi: Spi, response: &[u8], out: &mut [u8]) -> Answer {
+    let mut cells = [0; CELLS_OCTETS];
+    let mut ud = [0; USER_DATA_OCTETS];
+    let going = skelmarix::write_report(spi, USER_DATA_OCTETS, PRESENT_EDITION, response, &mut ud);
+    let n = in_report(going);
+    let record = skelmarix::fresh_record(Kind::Response);
+    let taken = skelmarix::take_message(record, 7, first_octets(&ud, n), &mut cells, out);
+    taken.answer
+}
+
+// How many octets of a report there are.
+fn in_report(going: Outgoing) -> usize {
+    match going {
+        Outgoing::Nothing => 0,
+        Outgoing::Report { length } => length,
+        Outgoing::Announcement { length } => length,
+        Outgoing::Submit => 0,
+        Outgoing::Refused(why) => 0,
+    }
+}
+
+// ---- the server
+// What a response does to its command, and the table afterwards.
+fn hear(outstanding: Outstanding, response: &[u8]) -> Outstanding {
+    let after = skelmarix::response_came(outstanding, 7, response);
+    let table = after.outstanding;
+    let answer = after.answer;
+    match answer {
+        Closing::Closed => say(
+            b"The command is closed; still waiting: ",
+            table.count as usize,
+        ),
+        Closing::Waiting => say(
+            b"Another response follows; still waiting: ",
+            table.count as usize,
+        ),
+        Closing::Refused(why) => say(b"The response is refused, number ", why.number() as usize),
+    }
+    table
+}
+
 fn main() {
     let mut sent = [0; PACKET_OCTETS];
     let mut received = [0; PACKET_OCTETS];
     let clear = Clear {
-        spi: Spi(0x02, 0x21),
+        spi: Spi(0x02, 0x01),
         kic: 0x15,
         kid: 0x15,
         tar: Tar(0xB0, 0x00, 0x10),
@@ -103,16 +153,16 @@ fn main() {
         b"The server sends a command; octets: ",
         written_in(built, &sent).len(),
     );
+    let noted = command_sent(no_commands(), 7, clear.tar, Cntr(0, 0, 0, 0, 1));
     let answer = carry(Kind::Command, written_in(built, &sent), &mut received);
     let n = respond(packet_in(answer, &received), &mut sent);
     say(b"The card answers; octets: ", n);
-    let answer = carry(
-        Kind::Response,
-        skelmarix::first_octets(&sent, n),
-        &mut received,
-    );
+    let answer = report(clear.spi, first_octets(&sent, n), &mut received);
+    let table = hear(noted.outstanding, packet_in(answer, &received));
+    let answer = carry(Kind::Response, first_octets(&sent, n), &mut received);
     say(
         b"The server has the response; octets of data: ",
         skelmarix::response_data(packet_in(answer, &received), false).len(),
     );
+    hear(table, packet_in(answer, &received));
 }
