@@ -12,7 +12,7 @@ pub enum Kind {
 pub enum Refusal {
     // 1: a lent buffer of another length than it must have, a record that is not well formed, or a table of commands that says that more than 8
     // entries are in use, or in which two of those are equal. Taking, building, checksum octets, writing, reporting, sending a command, a response
-    // that came.
+    // that came, salvaging.
     BufferOrRecord,
     // 2: user data of more than 140 octets, or a page of other than 88. Taking, reading.
     InputLength,
@@ -384,6 +384,27 @@ pub enum Announcing {
     Yes,
     No,
     Refused(Refusal),
+}
+
+// ---- captures
+// The most octets of a capture that can be salvaged, and how many octets of a record are before its own: its mark, its kind and its length.
+pub const CAPTURE_OCTETS: usize = 65536;
+
+pub const CAPTURE_HEAD: usize = 4;
+
+// A longest run of octets that salvaging skips: its first position, how many octets it has, and the position behind it. If no octet is skipped,
+// the count is 0.
+pub struct SkippedRun {
+    pub first: usize,
+    pub count: usize,
+    pub next: usize,
+}
+
+// What octets are as one record of a capture, by itself. Its own octets begin at `start`.
+pub enum Captured {
+    UserData { start: usize },
+    Page { start: usize },
+    Unsound,
 }
 
 // ---- numbers on the air
