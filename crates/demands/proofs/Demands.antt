@@ -27,6 +27,7 @@ demand-1 = record {
   judging-a-counter = refusing.judging-refused;
   sending-a-command = refusing.sending-refused;
   response-that-came = refusing.closing-refused;
+  salvaging-a-capture = refusing.salvaging-refused;
   unfit = refusing.unfit-refused;
   making-a-record = refusing.making-refused;
 }

@@ -7,6 +7,7 @@ pub mod Track
 pub mod Window
 pub mod Wake
 pub mod Crowding
+pub mod Capture
 pub mod Refusing
 pub mod Tightness
 pub mod Along

@@ -34,9 +34,11 @@ use Rattle.counters.specs.Counters.{unfitCounters, judgedBy, orLeaves, judgeCou
 use Rattle.types.specs.declared.Outstanding.{Outstanding}
 use Rattle.gateway.specs.Gateway as gateway
 use Rattle.report.specs.Reporting as report
-use Rattle.demands.specs.Refusing.{Leaves, unaltered, dropped, TakingRefused, BuildingRefused, ChecksumRefused, WritingRefused, PageRefused, ReportRefused, JudgingRefused, SendingRefused, ClosingRefused, ParsingRefused, AnnouncingRefused, UnfitRefused, MakingRefused}
+use Rattle.demands.specs.Refusing.{Leaves, unaltered, dropped, TakingRefused, BuildingRefused, ChecksumRefused, WritingRefused, PageRefused, ReportRefused, JudgingRefused, SendingRefused, ClosingRefused, ParsingRefused, AnnouncingRefused, UnfitRefused, MakingRefused, SalvagingRefused}
+use Rattle.capture.specs.Captures.{salvaged, mostCapture, salvaging}
 use Rattle.demands.specs.Runs.{Slots}
 use Rattle.demands.proofs.Calls.{isPage, taking-any}
+use Rattle.demands.proofs.Capture.{salvages-or-refuses}
 
 -- ---- taking
 module _ (n : ℕ) (s : State) (i : Input) (number : ℕ) where
@@ -138,6 +140,11 @@ pub report-refused : ReportRefused
 unfolding report.writeReport
 report-refused edition spi capacity p buffer = report-left (report.reporting edition spi capacity p (length buffer)) buffer
 
+pub salvaging-refused : SalvagingRefused
+unfolding salvaging
+salvaging-refused file output =
+    written-left (refuse 24 when ltb mostCapture (length file) otherwise refuse 1 when not (eqb (length output) (length file)) otherwise outcome.gives (salvaged file)) output
+
 -- ---- judging a counter
 table-left : (c : Counters) (o : outcome.Outcome (ℕ × Counters)) (number : ℕ) → orLeaves c o .answer ≡ outcome.refused number → orLeaves c o .counters ≡ c
 table-left c (outcome.refused m) number e = refl
@@ -217,6 +224,7 @@ unfit-refused n = record {
   writing-user-data = λ k width reference p which buffer ne. rw (ne-eqb (length buffer) mostUserData ne);
   writing-a-page = λ serial identifier dcs p which buffer ne. rw (ne-eqb (length buffer) pageOctets ne);
   writing-a-report = λ edition spi capacity p buffer ne. rw (ne-eqb (length buffer) report.mostReport ne);
+  salvaging-a-capture = λ file output. salvages-or-refuses file output .one;
   put = λ o at p l. (lt-leb (at + length p) (length o) l, rw (lt-leb (at + length p) (length o) l));
 }
 

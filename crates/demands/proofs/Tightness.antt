@@ -69,6 +69,7 @@ use Rattle.types.specs.declared.Announcing.{Announcing}
 use Rattle.types.specs.declared.Announcing.the-variants as announcing
 use Rattle.report.specs.Reporting as report
 use Rattle.demands.specs.Tightness.{Tight, toldBuilt, toldMade, toldPart, toldReport, toldHanded, toldTaken, toldAssessed, toldSent, toldCame, Tellings, PlainPromises, One, Promises}
+use Rattle.capture.specs.Captures.{nextRun, recordIn}
 
 -- what can be read back is told of one outcome only
 tight : {O P : Type 0} (told : O → P) (back : P → O) → ((r : O) → back (told r) ≡ r) → Tight told
@@ -438,6 +439,9 @@ promises = record {
   no-commands = plain gateway.noCommands;
   command-sent = λ t sender tar cntr. tellings .command-sent _;
   response-came = λ t sender p. tellings .response-came _;
+  salvage = λ file output. tellings .build-and-checksum _;
+  next-skipped = λ file from. plain (nextRun file from);
+  read-captured = λ o. plain (recordIn o);
 }
   where
     put-one : {r₁ r₂ : Bool × List ℕ} → r₁ .0 ≡ r₂ .0 → r₁ .1 ≡ r₂ .1 → r₁ ≡ r₂

@@ -14,6 +14,7 @@ pub mod RoundTrips
 pub mod Checked
 pub mod Counters
 pub mod Gateway
+pub mod Capture
 pub mod SplitTaken
 pub mod Delivery
 pub mod Reports

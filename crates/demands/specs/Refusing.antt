@@ -1,7 +1,7 @@
 -- Demand 1: "A refusal alters no lent buffer and no record; one exception: a complete series refused 9 is dropped." (01: "Refusal 9 on a
 -- complete series frees its slot; nothing else changes, then or on any other refusal.") Every entry point takes every input and ends: that is
 -- what the proof of each function says; here is what a refused call leaves.
-use Prim.Native.Nat.{ℕ, _+_, _<_}
+use Prim.Native.Nat.{ℕ, _+_, _≤_, _<_}
 use mathlib.Core.Path.{_≡_}
 use mathlib.Core.Bool.{Bool, true, false}
 use mathlib.Core.List.{List, []}
@@ -30,6 +30,7 @@ use Rattle.types.specs.declared.Outstanding.{Outstanding}
 use Rattle.gateway.specs.Gateway.{commandSent, responseCame}
 use Rattle.demands.specs.Runs.{Slots}
 use Rattle.report.specs.Reporting.{mostReport, reported, writeReport, responseAnnounces}
+use Rattle.capture.specs.Captures.{mostCapture, salvaging}
 
 -- ---- taking
 -- The call completes the series in that slot: it is read as a part of the slot's key and total, its number is not held, and with it none is
@@ -55,7 +56,7 @@ pub data Leaves (n : ℕ) (s : State) (i : Input) (number : ℕ) : State → Typ
 abbrev pub TakingRefused : ℕ → Type 0
 TakingRefused n = (s : State) (i : Input) (number : ℕ) → takeInput n s i .answer ≡ refusedBy number → Leaves n s i number (takeInput n s i .state)
 
--- ---- building, checksum octets, writing parts, pages and reports: the lent buffer stays as it was
+-- ---- building, checksum octets, writing parts, pages and reports, salvaging: the lent buffer stays as it was
 abbrev pub BuildingRefused : Type 0
 BuildingRefused = (k : Kind) (x : Fields) (buffer : List ℕ) (number : ℕ) → built k x buffer .0 ≡ outcome.refused number → built k x buffer .1 ≡ buffer
 
@@ -77,6 +78,9 @@ abbrev pub ReportRefused : Type 0
 ReportRefused =
     (edition spi capacity : ℕ) (p buffer : List ℕ) (number : ℕ)
     → writeReport edition spi capacity p buffer .0 ≡ outcome.refused number → writeReport edition spi capacity p buffer .1 ≡ buffer
+
+abbrev pub SalvagingRefused : Type 0
+SalvagingRefused = (file output : List ℕ) (number : ℕ) → salvaging file output .0 ≡ outcome.refused number → salvaging file output .1 ≡ output
 
 -- ---- judging a counter: the table stays as it was
 abbrev pub JudgingRefused : Type 0
@@ -119,6 +123,8 @@ pub record UnfitRefused (n : ℕ) : Type 0 where
       → writePage serial identifier dcs p which buffer ≡ written (outcome.refused 1) buffer
   pub writing-a-report : (edition spi capacity : ℕ) (p buffer : List ℕ) → (length buffer ≡ mostReport → ⊥)
       → writeReport edition spi capacity p buffer ≡ reported (outcome.refused 1) buffer
+  pub salvaging-a-capture : (file output : List ℕ) → length file ≤ mostCapture → (length output ≡ length file → ⊥)
+      → salvaging file output ≡ lent (outcome.refused 1) output
   pub put : (o : List ℕ) (at : ℕ) (p : List ℕ) → length o < at + length p → (fitsAt o at p ≡ false) × (afterPut o at p ≡ o)
 
 -- ---- making a record

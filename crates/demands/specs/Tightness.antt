@@ -51,6 +51,9 @@ use Rattle.types.specs.declared.Outstanding.{Outstanding}
 use Rattle.types.specs.declared.AfterSending.{AfterSending}
 use Rattle.types.specs.declared.AfterResponse.{AfterResponse}
 use Rattle.gateway.specs.Gateway as gateway
+use Rattle.types.specs.declared.SkippedRun.{SkippedRun}
+use Rattle.types.specs.declared.Captured.{Captured}
+use Rattle.capture.specs.Captures as capture
 
 -- whatever the rule says, two outcomes of which that is told are the same
 abbrev pub Tight : {Outcome Paper : Type 0} → (Outcome → Paper) → Type 0
@@ -97,7 +100,7 @@ pub record Tellings : Type 0 where
   -- parse_command, parse_response
   pub parse-command : Tight toldCommand
   pub parse-response : Tight toldResponse
-  -- build_command, build_ciphered_command, build_response, build_ciphered_response, command_checksum, response_checksum
+  -- build_command, build_ciphered_command, build_response, build_ciphered_response, command_checksum, response_checksum, salvage
   pub build-and-checksum : Tight toldBuilt
   -- read_message, read_page
   pub read-message-and-page : Tight toldArrival
@@ -197,3 +200,7 @@ pub record Promises : Type 0 where
   pub command-sent : (t : Outstanding) (sender : ℕ) (tar : Tar) (cntr : Cntr)
       → One (λ (r : AfterSending). toldSent r ≡ gateway.commandSent t (gateway.sentCommand sender tar cntr))
   pub response-came : (t : Outstanding) (sender : ℕ) (p : List ℕ) → One (λ (r : AfterResponse). toldCame r ≡ gateway.responseCame t sender p)
+  -- captures
+  pub salvage : (file output : List ℕ) → One (λ (r : Written × List ℕ). toldBuilt r ≡ capture.salvaging file output)
+  pub next-skipped : (file : List ℕ) (from : ℕ) → One (λ (r : SkippedRun). r ≡ capture.nextRun file from)
+  pub read-captured : (o : List ℕ) → One (λ (r : Captured). r ≡ capture.recordIn o)
