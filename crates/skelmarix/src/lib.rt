@@ -2,6 +2,9 @@
 // calls that only these crates make of one another stay with them.
 
 // Sizes of what a caller lends, the most slots of a record, and the entries of a table of counters and of one of outstanding commands.
+// Sizes of what a caller lends, the most slots of a record, and the entries of a table of counters.
+pub use types::CAPTURE_HEAD;
+pub use types::CAPTURE_OCTETS;
 pub use types::CELLS_OCTETS;
 pub use types::CHECKSUM_OCTETS;
 pub use types::COUNTER_ENTRIES;
@@ -103,6 +106,12 @@ pub use types::Closing;
 pub use types::Outstanding;
 pub use types::Sending;
 pub use types::SentCommand;
+// Captures: what is sound of one, the runs that are skipped, and one record by itself.
+pub use capture::next_skipped;
+pub use capture::read_captured;
+pub use capture::salvage;
+pub use types::Captured;
+pub use types::SkippedRun;
 
 // Octets: the first of a slice, some put into a buffer, two slices compared, a number as the pair that is on the air.
 pub use octets::number_of;
