@@ -39,7 +39,8 @@ fn record_length(own: u8) -> usize
     CAPTURE_HEAD + own as usize
 }
 
-// How many octets the sound record at a position has, its mark and head included; 0 if there is none.
+// How many octets the sound record at a position has, its mark and head included; 0 if there is none. At most six octets are looked at, so that
+// the time for a file grows as its length does.
 fn sound_at(file: &[u8], at: usize) -> usize
     requires { ⌜ at ≤ length (now file) ⌝ }
     ensures { λ r. ⌜ (r ≡ soundLength (drop at (now (file .entry)))) × (at + r ≤ length (now (file .entry))) ⌝ }
