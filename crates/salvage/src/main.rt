@@ -1,6 +1,6 @@
 // ./run salvage copies what is sound of the capture on standard input to the file salvage.out, and prints a line for each longest run of octets
 // that it skipped: the first position, from 0, a space, and the count. A capture of more than 65,536 octets is refused: 24 is printed, and
-// salvage.out is empty. It is empty as well if a run fails; standard error says why.
+// salvage.out is empty. It is empty as well if reading or writing the octets fails; standard error says what failed.
 use libc::STDERR_FILENO;
 use libc::STDIN_FILENO;
 use libc::STDOUT_FILENO;

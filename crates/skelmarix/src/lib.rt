@@ -1,8 +1,8 @@
 // Skelmarix: secured packets over short messages and cell broadcast pages. What a user names of the crates below, and nothing of its own; the
 // calls that only these crates make of one another stay with them.
 
-// Sizes of what a caller lends, the most slots of a record, and the entries of a table of counters and of one of outstanding commands.
-// Sizes of what a caller lends, the most slots of a record, and the entries of a table of counters.
+// Sizes of what a caller lends, the most slots of a record, the entries of a table of counters and of one of outstanding commands, and what is before the
+// octets of a captured record.
 pub use types::CAPTURE_HEAD;
 pub use types::CAPTURE_OCTETS;
 pub use types::CELLS_OCTETS;
