@@ -1,15 +1,35 @@
-// What a record holds, as `record` and `slot` print it.
+// What a record and a table hold, as `record`, `slot` and `counters` print it.
 use crate::number;
 use crate::rows;
 use crate::say;
+use types::COUNTER_ENTRIES;
+use types::CounterEntry;
+use types::PARTS;
+use types::SLOTS;
 use types::Slot;
 ghost use Prim.Native.Nat.{_≤_, _<_};
 
-fn mark(held: bool, text: &mut [u8], at: usize) -> usize {
-    if held {
-        return say(b":", text, at);
+// Prints a row that has no octets of buffers.
+pub fn alone(row: crate::Row, text: &mut [u8], at: usize) -> usize {
+    let none = [0u8; 0];
+    crate::print(row, &none, &none, &none, text, at)
+}
+
+// How many are printed of what a number says: no more than there are.
+fn printed(n: u8, most: usize) -> usize
+    ensures { λ r. ⌜ r ≤ most ⌝ }
+{
+    if most < n as usize {
+        return most;
     }
-    say(b"=", text, at)
+    n as usize
+}
+
+// ---- slots
+// `:` behind the number of a part that is held, `=` behind that of another.
+fn mark(held: bool, text: &mut [u8], at: usize) -> usize {
+    let mark = [if held { 58u8 } else { 61u8 }];
+    say(&mark, text, at)
 }
 
 // ` NUMBER:LENGTH` of a part that is held, ` NUMBER=LENGTH` of a length that is not, and nothing of neither.
@@ -19,16 +39,9 @@ fn part(held: bool, place: usize, length: u8, text: &mut [u8], at: usize) -> usi
     if !held & (length == 0) {
         return at;
     }
-    let at = say(b" ", text, at);
-    let at = number(place as u64 + 1, text, at);
+    let at = crate::count(place as u64 + 1, text, at);
     let at = mark(held, text, at);
     number(length as u64, text, at)
-}
-
-// Prints a row that has no octets of buffers.
-pub fn alone(row: crate::Row, text: &mut [u8], at: usize) -> usize {
-    let none = [0u8; 0];
-    crate::print(row, &none, &none, &none, text, at)
 }
 
 // ` RANK SENDER WIDTH REFERENCE SERIAL IDENTIFIER TOTAL`.
@@ -38,37 +51,75 @@ fn head(x: Slot, text: &mut [u8], at: usize) -> usize {
     alone(key, text, at)
 }
 
-// The same, and each part.
-pub fn slot(x: Slot, text: &mut [u8], at: usize) -> usize {
-    let mut at = head(x, text, at);
+fn parts(lengths: [u8; PARTS], held: [bool; PARTS], text: &mut [u8], from: usize) -> usize {
+    let mut at = from;
     let mut i = 0;
-    while i < types::PARTS {
-        let length = x.lengths[i];
-        at = part(x.held[i], i, length, text, at);
+    while i < PARTS {
+        at = part(held[i], i, lengths[i], text, at);
         i += 1;
     }
     at
 }
 
-// How many slots are printed: as many as the record's number says, and no more than there are.
-fn printed(n: u8) -> usize
-    ensures { λ r. ⌜ r ≤ 5 ⌝ }
+// The same, and each part.
+pub fn slot(x: Slot, text: &mut [u8], at: usize) -> usize {
+    let at = head(x, text, at);
+    let lengths = x.lengths;
+    let held = x.held;
+    parts(lengths, held, text, at)
+}
+
+fn next_slot(x: Slot, text: &mut [u8], at: usize) -> usize {
+    let at = say(b";", text, at);
+    slot(x, text, at)
+}
+
+fn slots(slots: [Slot; SLOTS], n: usize, text: &mut [u8], from: usize) -> usize
+    requires { ⌜ n ≤ 5 ⌝ }
 {
-    if types::SLOTS < n as usize {
-        return types::SLOTS;
+    let mut at = from;
+    let mut i = 0;
+    while i < n {
+        at = next_slot(slots[i], text, at);
+        i += 1;
     }
-    n as usize
+    at
 }
 
 // `record KIND`, and `; SLOT` for each slot.
 pub fn record(r: types::Record, text: &mut [u8], at: usize) -> usize {
-    let mut at = alone(rows::head(r.kind), text, at);
-    let n = printed(r.count);
+    let kind = r.kind;
+    let at = alone(rows::head(kind), text, at);
+    let all = r.slots;
+    slots(all, printed(r.count, SLOTS), text, at)
+}
+
+// ---- counters
+fn next_entry(e: CounterEntry, text: &mut [u8], at: usize) -> usize {
+    let at = say(b";", text, at);
+    alone(rows::entry(e), text, at)
+}
+
+fn entries(
+    entries: [CounterEntry; COUNTER_ENTRIES],
+    n: usize,
+    text: &mut [u8],
+    from: usize,
+) -> usize
+    requires { ⌜ n ≤ 16 ⌝ }
+{
+    let mut at = from;
     let mut i = 0;
     while i < n {
-        at = say(b";", text, at);
-        at = slot(r.slots[i], text, at);
+        at = next_entry(entries[i], text, at);
         i += 1;
     }
     at
+}
+
+// `counters N`, and `; TAR CNTR` for each entry that is in use.
+pub fn counters(c: types::Counters, text: &mut [u8], at: usize) -> usize {
+    let at = alone(rows::one(rows::COUNTERS, 6, c.count as u64), text, at);
+    let all = c.entries;
+    entries(all, printed(c.count, COUNTER_ENTRIES), text, at)
 }

@@ -77,6 +77,10 @@ const ANNOUNCE: u64 = 49878317157;
 
 const SUBMIT: u64 = 659633460;
 
+pub const COUNTERS: u64 = 119905326675;
+
+const STATUS: u64 = 658559667;
+
 // ---- rows
 // A name alone, and with one value.
 pub fn plain(name: u64) -> Row {
@@ -244,6 +248,24 @@ pub fn announcing(a: Announcing) -> Row {
         Announcing::Yes => plain(YES),
         Announcing::No => plain(NO),
         Announcing::Refused(why) => refusal(why),
+    }
+}
+
+// ---- counters
+// `status SS`.
+pub fn judgement(j: types::Judgement) -> Row {
+    match j {
+        types::Judgement::Status(s) => one(STATUS, 1, s as u64),
+        types::Judgement::Refused(why) => refusal(why),
+    }
+}
+
+// ` TAR CNTR`.
+pub(crate) fn entry(e: types::CounterEntry) -> Row {
+    Row {
+        name: 0,
+        sorts: 0x53,
+        values: [tar(e.tar), cntr(e.cntr), 0, 0, 0, 0, 0, 0],
     }
 }
 

@@ -1,5 +1,6 @@
-// What is printed of a line, once what is held is changed.
-use crate::changes::Made;
+// What is printed of a line, once what is kept is changed.
+use crate::shows;
+use changes::Made;
 use words::line::Line;
 use words::table;
 
@@ -14,13 +15,14 @@ pub(crate) fn say(
     text: &mut [u8],
     at: usize,
 ) -> usize {
-    if (table::SLOT < l.row) & (l.row < table::CELLS) {
-        return lines::of_record(l.row, made.bench.record, text, at);
+    if shows::is_shown(l.row) {
+        return shows::kept(l.row, made.bench, text, at);
     }
     if (table::COMMAND <= l.row) & (l.row <= table::SHOW_CIPHERED) {
         return lines::say_packet(l.row, octets, text, at);
     }
     let lent = made.bench.lent;
-    let row = lines::answer_row(l, octets, made.row, lent[2], buffer);
+    let row = shows::part_or(l, made.row);
+    let row = lines::answer_row(l, octets, row, lent[2], buffer);
     answers::print(row, cells, output, buffer, text, at)
 }

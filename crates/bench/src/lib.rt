@@ -1,40 +1,24 @@
 // The bench: a line of text is a call of the library, and its answer is a line of text again. From line to line a record, the cells, the output
-// and the buffer are held, and how much of each is lent.
+// and the buffer are kept, a table of counters, and how much of each buffer is lent.
 mod asks;
-mod changes;
+mod shows;
 mod slots;
 
+use changes::Bench;
+pub use changes::start;
 use words::line::Line;
 use words::table;
 ghost use mathlib.Core.Path.{_≡_};
 ghost use mathlib.Core.Bool.{true, false};
 ghost use lib.ListN.{getD, take};
-ghost use Rattle.bench.specs.Lines.{atStart, held, rowChanges, LineLeaves, Untouched};
+ghost use Rattle.changes.specs.Kept.{held, rowChanges};
+ghost use Rattle.bench.specs.Lines.{LineLeaves, Untouched};
 
-// What is held beside the buffers: the record, how many octets of cells, output and buffer are lent (`RIGHT` means the right number), and
-// whether answers are numbered.
-pub struct Bench {
-    pub record: types::Record,
-    pub lent: [usize; 3],
-    pub numbered: bool,
-}
-
-// The result of a line: what is held afterwards, and where the text ends with its answer.
+// The result of a line: what is kept afterwards, and where the text ends with its answer.
 pub struct Heard {
     pub bench: Bench,
     pub understood: bool,
     pub end: usize,
-}
-
-// What is held before the first line: a fresh record for commands.
-pub fn start() -> Bench
-    ensures { λ r. ⌜ r ≡ atStart ⌝ }
-{
-    Bench {
-        record: skelmarix::fresh_record(types::Kind::Command),
-        lent: [lines::RIGHT; 3],
-        numbered: false,
-    }
 }
 
 // A line that is understood, and one that is not.

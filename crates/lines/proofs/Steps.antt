@@ -9,7 +9,7 @@ use lib.Seq.{take-suc-set, take-length}
 use borrow.Author.Needs.{needs}
 use borrow.Author.Tests.{eq-eqb, ne-eqb}
 use Rattle.skelmarix.specs.Rules.{numberOf}
-use Rattle.lines.specs.Lent.{wantedOf, senderOf}
+use Rattle.lines.specs.Lent.{wantedOf, senderOf, tarOf, cntrOf}
 
 pub wanted-right : (n proper : ℕ) → n ≡ 65535 → proper ≡ wantedOf n proper
 wanted-right n proper e = rw (eq-eqb n 65535 e)
@@ -23,6 +23,13 @@ no-octet o i l = sym (List·getD-eq-default o 0 l)
 pub sender-told : (o : List ℕ) (a b c d h l : ℕ) → a ≡ getD o 0 0 → b ≡ getD o 1 0 → c ≡ getD o 2 0 → d ≡ getD o 3 0
     → h ≡ numberOf a b → l ≡ numberOf c d → h * 65536 + l ≡ senderOf o
 sender-told o a b c d h l e f g k m n = rw (m, n, e, f, g, k)
+
+pub tar-told : (o : List ℕ) (a b c : ℕ) → a ≡ getD o 0 0 → b ≡ getD o 1 0 → c ≡ getD o 2 0 → (a, b, c) ≡ tarOf o
+tar-told o a b c e f g = rw (e, f, g)
+
+pub cntr-told : (o : List ℕ) (a b c d e : ℕ) → a ≡ getD o 0 0 → b ≡ getD o 1 0 → c ≡ getD o 2 0 → d ≡ getD o 3 0 → e ≡ getD o 4 0
+    → (a, b, c, d, e) ≡ cntrOf o
+cntr-told o a b c d e f g h k l = rw (f, g, h, k, l)
 
 -- ---- filling
 -- up to i every octet is x
@@ -59,6 +66,8 @@ pub ruleset steps = (
   wanted-other,
   no-octet,
   sender-told,
+  tar-told,
+  cntr-told,
   filled-none,
   filled-more,
   filled-all,

@@ -1,35 +1,22 @@
 // Lines on building.
-use crate::octet;
+use crate::fields::cntr_of;
+use crate::fields::octet;
+use crate::fields::tar_of;
+use answers::Row;
+use answers::rows;
 use skelmarix::first_octets;
 use skelmarix::own_octets;
 use types::Clear;
-use types::Cntr;
-use types::Tar;
 use types::Written;
 use words::table;
-
-fn tar_at(fields: &[u8], i: usize) -> Tar {
-    let rest = own_octets(fields, i);
-    Tar(octet(rest, 0), octet(rest, 1), octet(rest, 2))
-}
-
-fn cntr_at(fields: &[u8], i: usize) -> Cntr {
-    let rest = own_octets(fields, i);
-    Cntr(
-        octet(rest, 0),
-        octet(rest, 1),
-        octet(rest, 2),
-        octet(rest, 3),
-        octet(rest, 4),
-    )
-}
+ghost use Prim.Native.Nat.{_≤_};
 
 fn clear_of(fields: &[u8]) -> Clear {
     Clear {
         spi: types::Spi(octet(fields, 0), octet(fields, 1)),
         kic: octet(fields, 2),
         kid: octet(fields, 3),
-        tar: tar_at(fields, 4),
+        tar: tar_of(own_octets(fields, 4)),
     }
 }
 
@@ -38,7 +25,7 @@ fn plain_command(fields: &[u8], data: usize, out: &mut [u8]) -> Written {
     let check = own_octets(first_octets(fields, data), 13);
     skelmarix::build_command(
         clear_of(fields),
-        cntr_at(fields, 7),
+        cntr_of(own_octets(fields, 7)),
         octet(fields, 12),
         check,
         own_octets(fields, data),
@@ -50,8 +37,8 @@ fn plain_command(fields: &[u8], data: usize, out: &mut [u8]) -> Written {
 fn plain_response(fields: &[u8], data: usize, out: &mut [u8]) -> Written {
     let check = own_octets(first_octets(fields, data), 10);
     skelmarix::build_response(
-        tar_at(fields, 0),
-        cntr_at(fields, 3),
+        tar_of(fields),
+        cntr_of(own_octets(fields, 3)),
         octet(fields, 8),
         octet(fields, 9),
         check,
@@ -72,19 +59,40 @@ fn ciphered_command(fields: &[u8], header: u64, out: &mut [u8]) -> Written {
 
 fn ciphered_response(fields: &[u8], header: u64, out: &mut [u8]) -> Written {
     let opaque = own_octets(fields, 3);
-    skelmarix::build_ciphered_response(tar_at(fields, 0), narrow(header), opaque, out)
+    skelmarix::build_ciphered_response(tar_of(fields), narrow(header), opaque, out)
 }
 
-// Builds what a line's row says.
-pub(crate) fn build(l: words::line::Line, fields: &[u8], out: &mut [u8]) -> Written {
-    if l.row == table::BUILD_COMMAND {
-        return plain_command(fields, l.values[6] as usize, out);
+// Builds what a row says, with its number: where the data of a plain body begins, or the header length of a ciphered one.
+fn built(row: usize, n: u64, fields: &[u8], out: &mut [u8]) -> Written {
+    if row == table::BUILD_COMMAND {
+        return plain_command(fields, n as usize, out);
     }
-    if l.row == table::BUILD_CIPHERED_COMMAND {
-        return ciphered_command(fields, l.values[4], out);
+    if row == table::BUILD_CIPHERED_COMMAND {
+        return ciphered_command(fields, n, out);
     }
-    if l.row == table::BUILD_RESPONSE {
-        return plain_response(fields, l.values[4] as usize, out);
+    if row == table::BUILD_RESPONSE {
+        return plain_response(fields, n as usize, out);
     }
-    ciphered_response(fields, l.values[1], out)
+    ciphered_response(fields, n, out)
+}
+
+// Which word of a row has that number: behind a plain body's CHECK the data begins.
+fn place(row: usize) -> usize
+    ensures { λ r. ⌜ r ≤ 6 ⌝ }
+{
+    if row == table::BUILD_COMMAND {
+        return 6;
+    }
+    if row == table::BUILD_CIPHERED_RESPONSE {
+        1
+    } else {
+        4
+    }
+}
+
+// Builds what a line asks for.
+pub(crate) fn build(l: words::line::Line, fields: &[u8], out: &mut [u8]) -> Row {
+    let values = l.values;
+    let n = values[place(l.row)];
+    rows::written(rows::PACKET, built(l.row, n, fields, out))
 }

@@ -1,26 +1,20 @@
-// Lines that leave record and cells alone: calls on packets, arrivals and parts. Each is known by its row of the table, and its octets are one
-// word's behind the other's.
-mod asks;
+// Lines that leave alone what is kept: calls on packets, arrivals, parts and reports. Each is known by its row of the table, and its octets are one
+// word's behind the other's (`fields`).
 mod build;
+pub mod fields;
 mod packets;
 mod parts;
-mod slots;
 
 use answers::Row;
-use answers::rows;
-pub use asks::of_record;
+use fields::octet;
 pub use packets::say_packet;
-pub use parts::kind_of;
-pub use parts::sender_of;
-pub use slots::say_slot;
-pub use slots::slot_of;
 use types::CHECKSUM_OCTETS;
 use types::PACKET_OCTETS;
 use words::line::Line;
 use words::table;
 ghost use mathlib.Core.Path.{_≡_};
 ghost use Prim.Native.Nat.{_≤_};
-ghost use lib.ListN.{length, getD, replicate};
+ghost use lib.ListN.{length, replicate};
 ghost use Rattle.lines.specs.Lent.{lentOf, wantedOf};
 
 // A number of octets lent that means the right one.
@@ -56,13 +50,6 @@ fn right(row: usize) -> usize {
     }
 }
 
-// The octet at a place; the fields of a line that is understood reach so far.
-pub fn octet(fields: &[u8], i: usize) -> u8
-    ensures { λ r. ⌜ r ≡ getD (now (fields .entry)) i 0 ⌝ }
-{
-    if i < fields.len() { fields[i] } else { 0 }
-}
-
 // Fills a buffer with one octet.
 pub fn fill(buffer: &mut [u8], x: u8)
     ensures { λ _. ⌜ now (buffer .exit) ≡ replicate (length (now (buffer .entry))) x ⌝ }
@@ -77,17 +64,12 @@ pub fn fill(buffer: &mut [u8], x: u8)
 // Makes what a line asks for at the start of what is lent of the buffer.
 fn made(l: Line, fields: &[u8], out: &mut [u8]) -> Row {
     if l.row < table::BUILD_COMMAND {
-        let w = packets::sum(l.row, fields, out);
-        return rows::written(rows::OCTETS, w);
+        return packets::sum(l.row, fields, out);
     }
     if l.row < table::BUILD_CIPHERED_RESPONSE + 1 {
-        let w = build::build(l, fields, out);
-        return rows::written(rows::PACKET, w);
+        return build::build(l, fields, out);
     }
-    if l.row == table::REPORT {
-        return rows::outgoing(parts::report(l, fields, out));
-    }
-    rows::written_part(parts::write(l, fields, out))
+    parts::write(l, fields, out)
 }
 
 // The same in a buffer of which so many octets are lent.
@@ -96,23 +78,19 @@ fn make(l: Line, fields: &[u8], size: usize, buffer: &mut [u8]) -> Row {
     made(l, fields, &mut buffer[0..n])
 }
 
-// What a line answers, the record's and the packets' apart; `row` is what was made of it already. A line that fills fills the buffer too.
+// Whether a line writes to the buffer.
+fn writes(row: usize) -> bool {
+    ((table::SUM_COMMAND <= row) & (row <= table::WRITE_PAGE)) | (row == table::REPORT)
+}
+
+// What a line answers, the packets' apart; `row` is what was made of it already. A line that fills fills the buffer too.
 pub fn answer_row(l: Line, fields: &[u8], row: Row, size: usize, buffer: &mut [u8]) -> Row {
+    if writes(l.row) {
+        return make(l, fields, size, buffer);
+    }
     if l.row == table::FILL {
         fill(buffer, octet(fields, 0));
         return row;
     }
-    if (l.row <= table::SLOT) | (l.row == table::SLOTS) {
-        return row;
-    }
-    if l.row <= table::BUFFER {
-        return asks::part(l);
-    }
-    if (table::READ_COMMAND <= l.row) & (l.row <= table::READ_PAGE_RESPONSE) {
-        return parts::arrival(l.row, fields);
-    }
-    if l.row == table::ANNOUNCES {
-        return rows::announcing(skelmarix::response_announces(fields));
-    }
-    make(l, fields, size, buffer)
+    parts::asked(l.row, fields, row)
 }

@@ -1,57 +1,41 @@
 // Lines on arrivals, on splitting and on reports: what one message or page brings, one part of a packet written, and what goes out of a response.
-use crate::octet;
+use crate::fields::kind_of;
+use crate::fields::narrow;
+use crate::fields::octet;
+use crate::fields::pair_at;
+use crate::fields::sender_of;
+use answers::Row;
 use answers::rows;
-use skelmarix::number_of;
 use skelmarix::own_octets;
-use types::Kind;
 use types::WrittenPart;
 use words::line::Line;
 use words::table;
-ghost use mathlib.Core.Path.{_≡_};
-ghost use Rattle.lines.specs.Lent.{kindBy, senderOf};
 
-// A kind by a flag.
-pub fn kind_of(response: bool) -> Kind
-    ensures { λ r. ⌜ r ≡ kindBy response ⌝ }
-{
-    if response {
-        Kind::Response
-    } else {
-        Kind::Command
+// ---- arrivals, and what a response announces
+fn message(response: bool, fields: &[u8]) -> Row {
+    let octets = own_octets(fields, 4);
+    rows::arrival(skelmarix::read_message(kind_of(response), sender_of(fields), octets))
+}
+
+fn page(response: bool, fields: &[u8]) -> Row {
+    rows::arrival(skelmarix::read_page(kind_of(response), fields))
+}
+
+// What one arrival brings, and whether a response announces another. The answer to every other line is the row that was made of it already.
+pub(crate) fn asked(row: usize, fields: &[u8], made: Row) -> Row {
+    if (row == table::READ_COMMAND) | (row == table::READ_RESPONSE) {
+        return message(row == table::READ_RESPONSE, fields);
     }
-}
-
-// The 16-bit number at a place.
-pub fn pair_at(fields: &[u8], i: usize) -> u16 {
-    let rest = own_octets(fields, i);
-    number_of(octet(rest, 0), octet(rest, 1))
-}
-
-// The sender: the first four octets.
-pub fn sender_of(fields: &[u8]) -> u32
-    ensures { λ r. ⌜ r ≡ senderOf (now (fields .entry)) ⌝ }
-{
-    let high = number_of(octet(fields, 0), octet(fields, 1));
-    let low = number_of(octet(fields, 2), octet(fields, 3));
-    high as u32 * 65536 + low as u32
-}
-
-// What one arrival brings.
-pub(crate) fn arrival(row: usize, fields: &[u8]) -> answers::Row {
-    if row < table::READ_RESPONSE + 1 {
-        let kind = kind_of(row == table::READ_RESPONSE);
-        let octets = own_octets(fields, 4);
-        return rows::arrival(skelmarix::read_message(kind, sender_of(fields), octets));
+    if (table::READ_RESPONSE < row) & (row <= table::READ_PAGE_RESPONSE) {
+        return page(row == table::READ_PAGE_RESPONSE, fields);
     }
-    let kind = kind_of(row == table::READ_PAGE_RESPONSE);
-    rows::arrival(skelmarix::read_page(kind, fields))
+    if row == table::ANNOUNCES {
+        return rows::announcing(skelmarix::response_announces(fields));
+    }
+    made
 }
 
-// A number of a line, which has 32 bits.
-fn narrow(n: u64) -> u32 {
-    (n % 4294967296) as u32
-}
-
+// ---- parts
 // Serial number, message identifier and DCS are the first five octets.
 fn write_page(number: u32, fields: &[u8], out: &mut [u8]) -> WrittenPart {
     let serial = types::SerialNumber(pair_at(fields, 0));
@@ -60,32 +44,43 @@ fn write_page(number: u32, fields: &[u8], out: &mut [u8]) -> WrittenPart {
     skelmarix::write_page(serial, identifier, octet(fields, 4), number, packet, out)
 }
 
-fn write_message(l: Line, packet: &[u8], out: &mut [u8]) -> WrittenPart {
-    let kind = kind_of(l.row == table::WRITE_RESPONSE);
-    let width = narrow(l.values[0]);
-    let reference = narrow(l.values[1]);
-    skelmarix::write_message(kind, width, reference, narrow(l.values[2]), packet, out)
+fn write_message(response: bool, v: [u64; 8], packet: &[u8], out: &mut [u8]) -> WrittenPart {
+    let width = narrow(v[0]);
+    let reference = narrow(v[1]);
+    let number = narrow(v[2]);
+    skelmarix::write_message(kind_of(response), width, reference, number, packet, out)
 }
 
-// Writes the part that a line's row says.
-pub(crate) fn write(l: Line, fields: &[u8], out: &mut [u8]) -> WrittenPart {
-    if l.row == table::WRITE_PAGE {
-        return write_page(narrow(l.values[3]), fields, out);
+fn part(row: usize, v: [u64; 8], fields: &[u8], out: &mut [u8]) -> WrittenPart {
+    if row == table::WRITE_PAGE {
+        return write_page(narrow(v[3]), fields, out);
     }
-    write_message(l, fields, out)
+    write_message(row == table::WRITE_RESPONSE, v, fields, out)
 }
 
+// ---- reports
 // The edition of a line on a report: its fourth word, or the present one if it is left out.
-fn edition_of(l: Line) -> u32 {
-    if l.count == 4 {
-        return narrow(l.values[3]);
+fn edition_of(count: usize, n: u64) -> u32 {
+    if count == 4 {
+        return narrow(n);
     }
     types::PRESENT_EDITION
 }
 
 // What goes out of a response: SPI is the first two octets.
-pub(crate) fn report(l: Line, fields: &[u8], out: &mut [u8]) -> types::Outgoing {
+fn report(capacity: usize, edition: u32, fields: &[u8], out: &mut [u8]) -> Row {
     let spi = types::Spi(octet(fields, 0), octet(fields, 1));
-    let capacity = narrow(l.values[1]) as usize;
-    skelmarix::write_report(spi, capacity, edition_of(l), own_octets(fields, 2), out)
+    let response = own_octets(fields, 2);
+    rows::outgoing(skelmarix::write_report(spi, capacity, edition, response, out))
+}
+
+// ---- by the row
+// Writes the part, or the report, that a line asks for.
+pub(crate) fn write(l: Line, fields: &[u8], out: &mut [u8]) -> Row {
+    let values = l.values;
+    if l.row == table::REPORT {
+        let edition = edition_of(l.count, values[3]);
+        return report(narrow(values[1]) as usize, edition, fields, out);
+    }
+    rows::written_part(part(l.row, values, fields, out))
 }

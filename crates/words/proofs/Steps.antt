@@ -8,13 +8,13 @@ use native.Mathlib.Nat.{add-zero}
 use native.Mathlib.Numerals.{add-one}
 use lib.ListN.{length, take, drop, getD, set, length-drop, length-set, length-append, drop-of-length-le}
 use lib.Seq.{drop-cons, take-suc-set, drop-set-lt, length-take-le}
-use lib.Dec.{eqb, leb}
+use lib.Dec.{eqb, leb, ltb}
 use borrow.Author.Needs.{needs}
 use borrow.Author.Tests.{le-leb, lt-leb, eq-eqb, ne-eqb, leb-true, not-true, not-false}
 use Rattle.octets.specs.Tests.{both, clash}
 use Rattle.words.specs.declared.Pairs.{Pairs}
 use Rattle.words.specs.Words.{isBlank, skipped, ended, isEmpty, between, isDigit, withDigit, shifted, valueFrom, behindDigits, isHex, hexOf, octetOf, octetsAt, behindOctets, isDash, wordOctets, behindWord, Counted, Paired}
-use Rattle.words.specs.Table.{keys, rowFrom, rowOf, mosts, mostOf}
+use Rattle.words.specs.Table.{rowCount, keys, rowFrom, rowOf, mosts, mostOf}
 use Rattle.words.specs.declared.Number.{Number}
 use Rattle.words.specs.declared.line.Word.{Word}
 use Rattle.words.specs.declared.line.Line.{Line}
@@ -288,18 +288,18 @@ module _ (line : List ℕ) (from end : ℕ) (there : from < length line) where
 pub record Finding (key i : ℕ) : Type 0 where
   pub is : rowFrom key i (drop i keys) ≡ rowOf key
   pub past : 1 ≤ i
-  pub inside : i ≤ 53
+  pub inside : i ≤ rowCount
 
 module _ (key : ℕ) where
   pub find-none : Finding key 1
   find-none = record { is = refl; past = omega arith; inside = omega arith }
 
   module _ (i : ℕ) (u : Finding key i) where
-    pub find-out : 53 ≤ i → 0 ≡ rowOf key
+    pub find-out : rowCount ≤ i → 0 ≡ rowOf key
     unfolding rowFrom
-    find-out l = let e : i ≡ 53 = omega (arith, u .inside) in subst (λ (k : ℕ). rowFrom key k (drop k keys) ≡ rowOf key) e (u .is)
+    find-out l = let e : i ≡ rowCount = omega (arith, u .inside) in subst (λ (k : ℕ). rowFrom key k (drop k keys) ≡ rowOf key) e (u .is)
 
-    module _ (more : i < 53) where
+    module _ (more : i < rowCount) where
       next : rowFrom key i (drop i keys) ≡ cond (eqb (getD keys i 0) key) i (rowFrom key (i + 1) (drop (suc i) keys))
       unfolding rowFrom
       next = rw (drop-cons keys i 0 more)
@@ -355,13 +355,13 @@ module _ (wanted at end : ℕ) (line after : List ℕ) (p : Pairs) (h : Paired (
   pub octets-inside : Apart (end + p .count) (p .at) line after
   octets-inside = record { apart = h .inside .0; within = h .inside .1; long = h .long }
 
-pub word-octets : (sort : ℕ) (o t : List ℕ) (w : WordRead) → 8 ≤ sort → w ≡ octetsRead (sort % 8) o t → w ≡ wordRead sort o t
+pub word-octets : (sort : ℕ) (o t : List ℕ) (w : WordRead) → 32 ≤ sort → w ≡ octetsRead (sort % 32) o t → w ≡ wordRead sort o t
 unfolding wordRead
-word-octets sort o t w l e = rw (le-leb 8 sort l) e
+word-octets sort o t w l e = rw (le-leb 32 sort l) e
 
-pub word-number : (sort : ℕ) (o t : List ℕ) (w : WordRead) → sort < 8 → w ≡ numberRead sort o t → w ≡ wordRead sort o t
+pub word-number : (sort : ℕ) (o t : List ℕ) (w : WordRead) → sort < 32 → w ≡ numberRead sort o t → w ≡ wordRead sort o t
 unfolding wordRead
-word-number sort o t w l e = rw (lt-leb 8 sort l) e
+word-number sort o t w l e = rw (lt-leb 32 sort l) e
 
 -- ---- a line
 module _ (s : Line) (w : Word) (r : Line) (sort : ℕ) where
@@ -390,9 +390,9 @@ module _ (last : Bool) (sort : ℕ) where
   pub step-there : (at n : ℕ) → (last ≡ false → at < n) → (last || eqb sort 0 || eqb sort 15) ≡ false → at < n
   step-there at n h e = h (goes-on e)
 
-  module _ (s r : Line) (line : List ℕ) (at : ℕ) (t : drop at line ≡ skipped (drop (s .at) line)) (is : last ≡ isEmpty (drop at line)) (k : sort ≡ s .sorts % 16) where
+  module _ (s r : Line) (line : List ℕ) (at : ℕ) (t : drop at line ≡ skipped (drop (s .at) line)) (is : last ≡ isEmpty (drop at line)) (k : sort ≡ s .sorts % 64) where
     pub step-closed : (last || eqb sort 0 || eqb sort 15) ≡ true
-        → ((l : List ℕ) → gathered r l ≡ rule.lineEnds (gathered s l) (eqb sort 15 || ((eqb sort 0 || eqb sort 7) && last)) (drop at l))
+        → ((l : List ℕ) → gathered r l ≡ rule.lineEnds (gathered s l) (eqb sort 15 || ((eqb sort 0 || (leb 16 sort && ltb sort 32)) && last)) (drop at l))
         → gathered r line ≡ rule.stepOn (gathered s line)
     unfolding rule.stepOn
     step-closed e h = h line ∙ rw (← k, ← t, ← is, e)

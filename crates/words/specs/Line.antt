@@ -8,7 +8,7 @@ use lib.ListN.{length, take, drop, getD, set}
 use Rattle.words.specs.declared.line.Word.{Word}
 use Rattle.words.specs.declared.line.Line.{Line}
 use Rattle.words.specs.Words.{skipped, ended, isEmpty, valueFrom, behindDigits, wordOctets, behindWord}
-use Rattle.words.specs.Table.{nameAfter, rowOf, allSorts, mostOf}
+use Rattle.words.specs.Table.{any, end, slotParts, mayLack, nameAfter, rowOf, allSorts, mostOf}
 
 -- ---- one word
 -- what reading it gave: whether it is of its sort, its value, the octets of the line so far, and the text behind it
@@ -38,7 +38,7 @@ octetsRead wanted before t =
     }
 
 unfoldable pub wordRead : ℕ → List ℕ → List ℕ → WordRead
-wordRead sort before t = cond (leb 8 sort) (octetsRead (sort % 8) before t) (numberRead sort before t)
+wordRead sort before t = cond (leb any sort) (octetsRead (sort % 32) before t) (numberRead sort before t)
 
 -- ---- a line
 -- what was read so far: whether the line is understood, whether there are words to come, the row, the sorts to come, the values of up to eight
@@ -85,7 +85,7 @@ valued s w =
       understood = false;
       more = w .good;
       row = s .row;
-      sorts = s .sorts / 16;
+      sorts = s .sorts / 64;
       values = set (s .values) (s .count % 8) (w .value);
       count = s .count % 8 + 1;
       octets = w .octets;
@@ -98,11 +98,11 @@ worded s sort w = cond (eqb sort 1) (named s w (rowOf (nameAfter (s .row) (w .va
 -- one word more
 abbrev pub stepped : Gathered → ℕ → List ℕ → Gathered
 stepped s sort t =
-    cond (isEmpty t || eqb sort 0 || eqb sort 15) (lineEnds s (eqb sort 15 || ((eqb sort 0 || eqb sort 7) && isEmpty t)) t)
+    cond (isEmpty t || eqb sort end || eqb sort slotParts) (lineEnds s (eqb sort slotParts || ((eqb sort end || mayLack sort) && isEmpty t)) t)
     (worded s sort (wordRead sort (s .octets) t))
 
 unfoldable pub stepOn : Gathered → Gathered
-stepOn s = stepped s (s .sorts % 16) (skipped (s .text))
+stepOn s = stepped s (s .sorts % 64) (skipped (s .text))
 
 -- so many words, if there are so many
 unfoldable pub steps : ℕ → Gathered → Gathered

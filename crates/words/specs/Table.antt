@@ -2,15 +2,15 @@
 -- line is a new row.
 use Prim.Native.Nat.{ℕ, _+_, _*_, _%_}
 use Prim.Native.String.{String}
-use mathlib.Core.Bool.{cond}
+use mathlib.Core.Bool.{Bool, cond, _&&_}
 use mathlib.Core.List.{List, [], _∷_, map}
-use lib.Dec.{eqb}
+use lib.Dec.{eqb, leb, ltb}
 use lib.ListN.{drop, getD}
 use Rattle.words.specs.Letters.{letters}
 
 -- ---- sorts of words
--- a name; a number up to 4,294,967,295, 65,535, 16,384, 255 or 4, or the first of these that may be left out at a line's end; octets, any number
--- of them or so many; parts of a slot
+-- a name; a number up to 4,294,967,295, 65,535, 16,384, 255, 4 or 15; parts of a slot; one of these numbers that may be left out at a line's end;
+-- octets, any number of them or so many
 abbrev pub name : ℕ
 name = 1
 
@@ -29,21 +29,27 @@ octet = 5
 abbrev pub place : ℕ
 place = 6
 
-abbrev pub numberOrNone : ℕ
-numberOrNone = 7
-
-abbrev pub any : ℕ
-any = 8
-
-abbrev pub octets : ℕ → ℕ
-octets n = 8 + n
+abbrev pub entry : ℕ
+entry = 7
 
 abbrev pub slotParts : ℕ
 slotParts = 15
 
+abbrev pub orNone : ℕ → ℕ
+orNone sort = 16 + sort
+
+abbrev pub mayLack : ℕ → Bool
+mayLack sort = leb 16 sort && ltb sort 32
+
+abbrev pub any : ℕ
+any = 32
+
+abbrev pub octets : ℕ → ℕ
+octets n = 32 + n
+
 -- the greatest number of each sort; no name has more than nine letters
 abbrev pub mosts : List ℕ
-mosts = 0 ∷ 35184372088831 ∷ 4294967295 ∷ 65535 ∷ 16384 ∷ 255 ∷ 4 ∷ 4294967295 ∷ []
+mosts = 0 ∷ 35184372088831 ∷ 4294967295 ∷ 65535 ∷ 16384 ∷ 255 ∷ 4 ∷ 15 ∷ []
 
 abbrev pub mostOf : ℕ → ℕ
 mostOf sort = getD mosts (sort % 8) 0
@@ -52,10 +58,10 @@ mostOf sort = getD mosts (sort % 8) 0
 abbrev pub end : ℕ
 end = 0
 
--- several sorts, one after the other, are one number: four bits each, the first lowest
+-- several sorts, one after the other, are one number: six bits each, the first lowest
 infixr 40 _then_
 abbrev pub _then_ : ℕ → ℕ → ℕ
-a then b = a + 16 * b
+a then b = a + 64 * b
 
 -- ---- the rows
 pub record Row : Type 0 where
@@ -73,8 +79,8 @@ rows =
     row 0 "message" (octets 4 then any) ∷
     row 0 "page" any ∷
     row 0 "fresh" name ∷
-    row 3 "command" numberOrNone ∷
-    row 3 "response" numberOrNone ∷
+    row 3 "command" (orNone number) ∷
+    row 3 "response" (orNone number) ∷
     row 0 "fill" (octets 1) ∷
     row 0 "lend" name ∷
     row 7 "cells" upToLent ∷
@@ -120,13 +126,20 @@ rows =
     row 47 "command" any ∷
     row 47 "response" any ∷
     row 0 "slots" octet ∷
-    row 0 "report" (octets 2 then number then any then numberOrNone) ∷
+    row 0 "report" (octets 2 then number then any then orNone number) ∷
     row 0 "announces" any ∷
+    row 0 "counter" (entry then octets 3 then octets 5) ∷
+    row 0 "counters" (orNone octet) ∷
+    row 0 "judge" any ∷
     []
+
+-- how many there are
+abbrev pub rowCount : ℕ
+rowCount = 56
 
 -- the key of a name behind an earlier row
 abbrev pub nameAfter : ℕ → ℕ → ℕ
-nameAfter earlier n = earlier % 64 * 35184372088832 + n % 35184372088832
+nameAfter earlier n = earlier % 256 * 35184372088832 + n % 35184372088832
 
 abbrev pub keys : List ℕ
 keys = map (λ r. nameAfter (r .earlier) (letters 0 (r .named))) rows

@@ -76,8 +76,8 @@ fn word_read(sort: u8, line: &mut [u8], at: usize, end: usize) -> Word
     ensures { λ r. ⌜ wordOf r (now (line .exit)) ≡ wordRead sort (take end (now (line .entry))) (drop at (now (line .entry))) ⌝ }
     ensures { λ r. ⌜ Apart (r .end) (r .at) (now (line .entry)) (now (line .exit)) ⌝ }
 {
-    if 8 <= sort {
-        return octets_read((sort % 8) as usize, line, at, end);
+    if 32 <= sort {
+        return octets_read((sort % 32) as usize, line, at, end);
     }
     number_read(sort, line, at, end)
 }
@@ -113,7 +113,7 @@ fn closed(s: Line, good: bool, at: usize) -> Line
 fn named(s: Line, w: Word) -> Line
     ensures { λ r. ⌜ ((l k : List ℕ) → gathered r l ≡ rule.named (gathered s k) (wordOf w l) (rowOf (nameAfter (s .row) (w .value)))) × (r .at ≡ w .at) × (r .end ≡ w .end) ⌝ }
 {
-    let row = find((s.row % 64) as u64 * 35184372088832 + w.value % 35184372088832);
+    let row = find((s.row % 256) as u64 * 35184372088832 + w.value % 35184372088832);
     let mut t = s;
     t.understood = false;
     t.more = w.good & !(row == 0);
@@ -132,7 +132,7 @@ fn valued(s: Line, w: Word) -> Line
     let i = s.count % 8;
     t.understood = false;
     t.more = w.good;
-    t.sorts = s.sorts / 16;
+    t.sorts = s.sorts / 64;
     t.values[i] = w.value;
     t.count = i + 1;
     t.at = w.at;
@@ -156,11 +156,12 @@ fn step(s: Line, line: &mut [u8]) -> Line
     ensures { λ r. ⌜ gathered r (now (line .exit)) ≡ rule.stepOn (gathered s (now (line .entry))) ⌝ }
     ensures { λ r. ⌜ Apart (r .end) (r .at) (now (line .entry)) (now (line .exit)) ⌝ }
 {
-    let sort = (s.sorts % 16) as u8;
+    let sort = (s.sorts % 64) as u8;
     let at = skip(line, s.at);
     let last = is_last(line, at);
     if last | (sort == 0) | (sort == 15) {
-        return closed(s, (sort == 15) | (((sort == 0) | (sort == 7)) & last), at);
+        let lacks = (16 <= sort) & (sort < 32);
+        return closed(s, (sort == 15) | (((sort == 0) | lacks) & last), at);
     }
     let w = word_read(sort, line, at, s.end);
     worded(s, sort, w)

@@ -3,10 +3,10 @@
 ghost use mathlib.Core.Path.{_≡_};
 ghost use Prim.Native.Nat.{_≤_, _<_};
 ghost use lib.ListN.{getD};
-ghost use Rattle.words.specs.Table.{keys, rowOf, allSorts, mostOf};
+ghost use Rattle.words.specs.Table.{rowCount, keys, rowOf, allSorts, mostOf};
 
 // How many rows there are; row 0 is where a line begins, and stands for none.
-const ROWS: usize = 53;
+const ROWS: usize = 56;
 
 // The rows that lines are told apart by.
 pub const MESSAGE: usize = 1;
@@ -65,6 +65,12 @@ pub const REPORT: usize = 51;
 
 pub const ANNOUNCES: usize = 52;
 
+pub const COUNTER: usize = 53;
+
+pub const COUNTERS: usize = 54;
+
+pub const JUDGE: usize = 55;
+
 // The key of each row: its earlier row and its name.
 const KEYS: [u64; ROWS] = [
     0,
@@ -120,79 +126,76 @@ const KEYS: [u64; ROWS] = [
     20332179,
     609762900,
     1596106149043,
+    3747041458,
+    119905326675,
+    11178213,
 ];
 
-// The sorts of the words that follow, four bits each, the first lowest.
+// The sorts of the words that follow, six bits each, the first lowest.
 const SORTS: [u64; ROWS] = [
     0x1,
-    0x8C,
-    0x8,
+    0x824,
+    0x20,
     0x1,
-    0x7,
-    0x7,
-    0x9,
+    0x12,
+    0x12,
+    0x21,
     0x1,
     0x4,
     0x4,
     0x4,
     0x0,
     0x0,
-    0xF5AA35C56,
+    0xF162883164146,
     0x0,
     0x0,
-    0x22,
-    0x22,
-    0x22,
-    0x8,
+    0x82,
+    0x82,
+    0x82,
+    0x20,
     0x1,
-    0x8,
-    0x8,
+    0x20,
+    0x20,
     0x1,
-    0x8,
+    0x20,
     0x1,
-    0x8,
-    0x8,
+    0x20,
+    0x20,
     0x1,
-    0x8,
+    0x20,
     0x1,
-    0x8,
-    0x8,
+    0x20,
+    0x20,
     0x1,
     0x1,
     0x1,
-    0x889DB99A,
-    0x82B99A,
-    0x8899DB,
-    0x82B,
+    0x8208658E1862,
+    0x8028E1862,
+    0x820861963,
+    0x200A3,
     0x1,
-    0x8222,
-    0x8222,
-    0x829AA,
+    0x802082,
+    0x802082,
+    0x200A18A2,
     0x1,
-    0x8C,
-    0x8C,
+    0x824,
+    0x824,
     0x1,
-    0x8,
-    0x8,
+    0x20,
+    0x20,
     0x5,
-    0x782A,
-    0x8,
+    0x4A00A2,
+    0x20,
+    0x258C7,
+    0x15,
+    0x20,
 ];
 
 // The greatest number of each sort.
-const MOSTS: [u64; 8] = [
-    0,
-    35184372088831,
-    4294967295,
-    65535,
-    16384,
-    255,
-    4,
-    4294967295,
-];
+const MOSTS: [u64; 8] = [0, 35184372088831, 4294967295, 65535, 16384, 255, 4, 15];
 
 fn key_at(i: usize) -> u64
-    requires { ⌜ i < 53 ⌝ }
+    requires { ⌜ i < rowCount ⌝ }
     ensures { λ r. ⌜ r ≡ getD keys i 0 ⌝ }
 {
     KEYS[i]
@@ -200,7 +203,7 @@ fn key_at(i: usize) -> u64
 
 // The row of a key; 0 if there is none.
 pub(crate) fn find(key: u64) -> usize
-    ensures { λ r. ⌜ (r ≡ rowOf key) × (r < 53) ⌝ }
+    ensures { λ r. ⌜ (r ≡ rowOf key) × (r < rowCount) ⌝ }
 {
     let mut i = 1;
     while i < ROWS {
@@ -214,7 +217,7 @@ pub(crate) fn find(key: u64) -> usize
 
 // The sorts of the words behind a row.
 pub(crate) fn sorts_of(row: usize) -> u64
-    requires { ⌜ row < 53 ⌝ }
+    requires { ⌜ row < rowCount ⌝ }
     ensures { λ r. ⌜ r ≡ getD allSorts row 0 ⌝ }
 {
     SORTS[row]

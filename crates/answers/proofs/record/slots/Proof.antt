@@ -1,0 +1,18 @@
+-- The text stays as long as it was; a turn passes a slot. Assumes nothing.
+use Prim.Native.Nat.{_-_}
+use mathlib.Core.Path.{_≡_}
+use lib.ListN.{length}
+use Rattle.answers.proofs.Steps.{steps}
+use Rattle.answers.proofs.record.slots.Statement.{statement}
+use Rattle.answers.proofs.record.slots.Tie as tie
+
+abbrev Inv-loop : tie.InvT-loop
+Inv-loop n text₀ from slots at₀ i₀ text at i = length text ≡ length text₀
+
+abbrev μ-loop : tie.MeasureT-loop
+μ-loop n text₀ from slots at₀ i₀ text at i = n - i
+
+pub slots-spec : {M : Type 1} → statement M
+slots-spec =
+    tie.close
+    (tie.spec Inv-loop μ-loop (λ c. search steps) (λ c. search steps) (λ c. search steps) (λ c κs. search steps) (λ c. search steps) (λ c. search steps) (λ c. search steps) (λ c. search steps) (λ c. search steps))

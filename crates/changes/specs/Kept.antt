@@ -1,0 +1,120 @@
+-- What is kept from line to line, and what a line that is understood leaves of it, by its row: record, cells and output are those of the library's
+-- rule for the call that the line asks for, and so is the table of counters.
+use Prim.Native.Nat.{ℕ, _-_, _%_, min}
+use mathlib.Core.Bool.{false, true, cond, _&&_}
+use mathlib.Core.List.{List, [], _∷_, _++_}
+use lib.Dec.{eqb, ltb, leb}
+use lib.ListN.{length, take, drop, getD, set, replicate}
+use Rattle.types.specs.declared.Kind.{Kind}
+use Rattle.types.specs.declared.Kind.the-variants.{Command}
+use Rattle.types.specs.declared.Record.{Record}
+use Rattle.types.specs.declared.CounterEntry.{CounterEntry}
+use Rattle.types.specs.declared.Counters.{Counters}
+use Rattle.skelmarix.specs.Rules.{mostOctets, cellsSize, defaultSlots, isSlotNumber, freshRecord, State, After, state, takeMessage, takePage, noCounters, judgeCounter}
+use Rattle.lines.specs.Lent.{right, lentOf, kindBy, senderOf, tarOf, cntrOf}
+use Rattle.changes.specs.declared.Bench.{Bench}
+
+-- ---- what is held
+-- beside the record, the table of counters, how much is lent and the flag, all octets of the cells and of the output
+pub record Held : Type 0 where
+  pub bench : Bench
+  pub cells : List ℕ
+  pub output : List ℕ
+
+abbrev pub held : Bench → List ℕ → List ℕ → Held
+held b cells output = record { bench = b; cells = cells; output = output }
+
+-- cells, output and buffer are lent with the right numbers
+abbrev pub allRight : List ℕ
+allRight = right ∷ right ∷ right ∷ []
+
+abbrev pub atStart : Bench
+atStart = record { «record» = freshRecord defaultSlots Command; counters = noCounters; lent = allRight; numbered = false }
+
+abbrev pub lentCells : Held → ℕ
+lentCells h = lentOf (getD (h .bench .lent) 0 0) (cellsSize (h .bench .«record» .count)) (length (h .cells))
+
+abbrev pub lentOutput : Held → ℕ
+lentOutput h = lentOf (getD (h .bench .lent) 1 0) mostOctets (length (h .output))
+
+-- the record, and what is lent
+abbrev pub called : Held → State
+called h = state (h .bench .«record») (take (lentCells h) (h .cells)) (take (lentOutput h) (h .output))
+
+abbrev pub withRecord : Bench → Record → Bench
+withRecord b r = record { «record» = r; counters = b .counters; lent = b .lent; numbered = b .numbered }
+
+abbrev pub withLent : Bench → List ℕ → Bench
+withLent b l = record { «record» = b .«record»; counters = b .counters; lent = l; numbered = b .numbered }
+
+abbrev pub withCounters : Bench → Counters → Bench
+withCounters b c = record { «record» = b .«record»; counters = c; lent = b .lent; numbered = b .numbered }
+
+abbrev pub nowNumbered : Bench → Bench
+nowNumbered b = record { «record» = b .«record»; counters = b .counters; lent = b .lent; numbered = true }
+
+-- ---- what is held afterwards, by the line's row
+-- row 1 `message SENDER UD`, row 2 `page PAGE`
+abbrev pub call : ℕ → List ℕ → State → After
+call row octets s =
+    cond (eqb row 1) (takeMessage (s .rec .count) s (senderOf octets) (drop 4 octets)) (takePage (s .rec .count) s octets)
+
+-- what a taking left of what was lent, and the rest as it was
+abbrev pub heldTaken : Held → After → Held
+heldTaken h a =
+    held (withRecord (h .bench) (a .state .rec)) (a .state .cells ++ drop (lentCells h) (h .cells)) (a .state .output ++ drop (lentOutput h) (h .output))
+
+-- every octet of cells and output
+abbrev pub allFilled : Held → Bench → ℕ → Held
+allFilled h b x = held b (replicate (length (h .cells)) x) (replicate (length (h .output)) x)
+
+-- a number of slots: five if the line has none, and the greatest that the call takes if it is greater
+abbrev pub slotsAsked : ℕ → ℕ → ℕ
+slotsAsked count value = cond (eqb count 0) defaultSlots (min value 255)
+
+-- a record that the library makes, and cells and output all 00; where it makes none, all stays as it is
+abbrev pub freshMade : Kind → ℕ → Held → Held
+freshMade k n h = cond (isSlotNumber n) (allFilled h (withRecord (h .bench) (freshRecord n k)) 0) h
+
+-- the record with another number of slots, whatever they hold
+abbrev pub withCount : Record → ℕ → Record
+withCount r n = record { kind = r .kind; count = n; slots = r .slots }
+
+-- rows 8 to 10 `lend cells N`, `lend output N`, `lend buffer N`, row 11 `lend right`, row 12 `number`, row 50 `slots N`
+abbrev pub lentNoted : ℕ → ℕ → Bench → Bench
+lentNoted row n b =
+    cond (ltb 7 row && ltb row 11) (withLent b (set (b .lent) (row - 8) n))
+    (cond (eqb row 11) (withLent b allRight)
+    (cond (eqb row 12) (nowNumbered b)
+    (cond (eqb row 50) (withRecord b (withCount (b .«record») (n % 256))) b)))
+
+-- the table with an entry as the line has it, and with another count in use
+abbrev pub entryOf : List ℕ → CounterEntry
+entryOf octets = record { tar = tarOf octets; cntr = cntrOf (drop 3 octets) }
+
+abbrev pub withEntry : Counters → ℕ → CounterEntry → Counters
+withEntry c i e = record { count = c .count; entries = set (c .entries) i e }
+
+abbrev pub withInUse : Counters → ℕ → Counters
+withInUse c n = record { count = n; entries = c .entries }
+
+-- row 53 `counter I TAR CNTR`, row 54 `counters N` or `counters`, row 55 `judge PACKET`
+abbrev pub countersAfter : ℕ → ℕ → ℕ → List ℕ → Counters → Counters
+countersAfter row count n octets c =
+    cond (eqb row 53) (withEntry c (n % 16) (entryOf octets))
+    (cond (eqb row 54) (cond (eqb count 0) c (withInUse c (n % 256)))
+    (judgeCounter c octets .counters))
+
+-- the lines that leave cells and output as they are
+abbrev pub noted : ℕ → ℕ → ℕ → List ℕ → Bench → Bench
+noted row count n octets b =
+    cond (leb 53 row && leb row 55) (withCounters b (countersAfter row count n octets (b .counters))) (lentNoted row n b)
+
+-- and row 4 `fresh command N`, row 5 `fresh response N`, row 6 `fill HH`; the lines of other rows leave all as it is. n is the first number of the
+-- line, and count how many words there are behind the names.
+unfoldable pub rowChanges : ℕ → ℕ → ℕ → List ℕ → Held → Held
+rowChanges row count n octets h =
+    cond (ltb row 3) (heldTaken h (call row octets (called h)))
+    (cond (ltb row 6) (freshMade (kindBy (eqb row 5)) (slotsAsked count n) h)
+    (cond (eqb row 6) (allFilled h (h .bench) (getD octets 0 0))
+    (held (noted row count n octets (h .bench)) (h .cells) (h .output))))

@@ -1,0 +1,105 @@
+// Lines that leave cells and output as they are: lending, numbering, the number of slots, and the table of counters.
+use crate::Bench;
+use crate::Made;
+use crate::with_record;
+use answers::rows;
+use words::table;
+ghost use mathlib.Core.Path.{_≡_};
+ghost use Prim.Native.Nat.{_<_, _%_};
+ghost use lib.ListN.{set};
+ghost use Rattle.changes.specs.Kept as rule;
+ghost use Rattle.changes.specs.Kept.{lentNoted, withRecord, withCount, withLent, withCounters, countersAfter};
+
+fn lend(b: Bench, i: usize, n: usize) -> Bench
+    requires { ⌜ i < 3 ⌝ }
+    ensures { λ r. ⌜ r ≡ withLent b (set (b .lent) i n) ⌝ }
+{
+    let mut c = b;
+    c.lent[i] = n;
+    c
+}
+
+// The bench with another number of slots in its record, whatever they hold.
+fn with_count(b: Bench, n: usize) -> Bench
+    ensures { λ r. ⌜ r ≡ withRecord b (withCount (b .«record») (n % 256)) ⌝ }
+{
+    let mut r = b.record;
+    r.count = (n % 256) as u8;
+    with_record(b, r)
+}
+
+fn note(row: usize, n: usize, b: Bench) -> Bench
+    ensures { λ r. ⌜ r ≡ lentNoted row n b ⌝ }
+{
+    if (table::LEND_CELLS - 1 < row) & (row < table::LEND_RIGHT) {
+        return lend(b, row - table::LEND_CELLS, n);
+    }
+    let mut c = b;
+    if row == table::LEND_RIGHT {
+        c.lent = [lines::RIGHT; 3];
+        return c;
+    }
+    if row == table::NUMBER {
+        c.numbered = true;
+        return c;
+    }
+    if row == table::SLOTS {
+        return with_count(b, n);
+    }
+    b
+}
+
+// What a line answers that took nothing.
+fn answer_of(row: usize, n: usize) -> answers::Row {
+    if row == table::FILL {
+        return rows::plain(rows::FILLED);
+    }
+    if row == table::SLOTS {
+        return rows::one(rows::SLOTS, 6, n as u64);
+    }
+    if row == table::NUMBER {
+        rows::plain(rows::NUMBERED)
+    } else {
+        rows::plain(rows::LENT)
+    }
+}
+
+pub(crate) fn named(b: Bench, row: usize, n: usize) -> Made
+    ensures { λ r. ⌜ r .bench ≡ b ⌝ }
+{
+    Made {
+        bench: b,
+        row: answer_of(row, n),
+    }
+}
+
+// ---- counters
+fn with_counters(b: Bench, c: types::Counters) -> Bench
+    ensures { λ x. ⌜ x ≡ withCounters b c ⌝ }
+{
+    let mut d = b;
+    d.counters = c;
+    d
+}
+
+fn counted(row: usize, count: usize, n: usize, octets: &[u8], b: Bench) -> Made
+    ensures { λ r. ⌜ r .bench ≡ withCounters b (countersAfter row count n (now (octets .entry)) (b .counters)) ⌝ }
+{
+    let j = crate::counters::after(row, count, n, octets, b.counters);
+    let answer = j.answer;
+    let table = j.counters;
+    Made {
+        bench: with_counters(b, table),
+        row: rows::judgement(answer),
+    }
+}
+
+// ---- by the row
+pub(crate) fn noted(row: usize, count: usize, n: usize, octets: &[u8], b: Bench) -> Made
+    ensures { λ r. ⌜ r .bench ≡ rule.noted row count n (now (octets .entry)) b ⌝ }
+{
+    if (table::COUNTER <= row) & (row <= table::JUDGE) {
+        return counted(row, count, n, octets, b);
+    }
+    named(note(row, n, b), row, n)
+}
