@@ -58,9 +58,8 @@ fn pairs(octets: &[u8], text: &mut [u8], at: usize) -> usize {
     to
 }
 
-// A blank and octets, `-` for none.
+// Octets, `-` for none.
 fn field(octets: &[u8], text: &mut [u8], at: usize) -> usize {
-    let at = say(b" ", text, at);
     if octets.len() == 0 {
         return say(b"-", text, at);
     }
@@ -74,7 +73,7 @@ fn octet(n: u64, scale: u64) -> u8
     (n / scale % 256) as u8
 }
 
-// A blank and the last octets of a number, up to five.
+// The last octets of a number, up to five.
 fn hex(n: u64, count: usize, text: &mut [u8], at: usize) -> usize {
     let octets = [
         octet(n, 4294967296),
@@ -134,39 +133,53 @@ fn numeral(sort: u8, v: u64, text: &mut [u8], at: usize) -> usize {
         return hex(v, sort as usize, text, at);
     }
     if sort == 6 {
-        return count(v, text, at);
+        return number(v, text, at);
     }
-    let at = say(b" ", text, at);
     letters(v, text, at)
 }
 
-// Octets by their sort.
+// Octets by their sort, before some how many they are.
 fn run(sort: u8, v: u64, octets: &[u8], text: &mut [u8], at: usize) -> usize {
     if sort < 12 {
-        let at = count(v, text, at);
+        let at = number(v, text, at);
+        let at = say(b" ", text, at);
         return field(part(octets, 0, v as usize), text, at);
     }
     let run = part(octets, (v / 65536) as usize, (v % 65536) as usize);
     field(run, text, at)
 }
 
-// A piece of a row.
-fn piece(sort: u8, v: u64, a: &[u8], b: &[u8], c: &[u8], text: &mut [u8], at: usize) -> usize {
+// One of three buffers.
+fn buffer<'a>(sort: u8, a: &'a [u8], b: &'a [u8], c: &'a [u8]) -> &'a [u8] {
+    if sort % 4 == 0 {
+        return a;
+    }
+    if sort % 4 == 1 {
+        return b;
+    }
+    c
+}
+
+// A blank and a piece of a row.
+fn piece(sort: u8, v: u64, octets: &[u8], text: &mut [u8], at: usize) -> usize {
+    let at = say(b" ", text, at);
     if sort < 8 {
         return numeral(sort, v, text, at);
     }
-    if sort % 4 == 0 {
-        return run(sort, v, a, text, at);
-    }
-    if sort % 4 == 1 {
-        return run(sort, v, b, text, at);
-    }
-    run(sort, v, c, text, at)
+    run(sort, v, octets, text, at)
 }
 
 // Prints a row behind what stands in the text up to `at`, with octets of three buffers.
-pub fn print(row: Row, a: &[u8], b: &[u8], c: &[u8], text: &mut [u8], at: usize) -> usize {
+pub fn print<'a>(
+    row: Row,
+    a: &'a [u8],
+    b: &'a [u8],
+    c: &'a [u8],
+    text: &mut [u8],
+    at: usize,
+) -> usize {
     let mut at = letters(row.name, text, at);
+    let values = row.values;
     let mut sorts = row.sorts;
     let mut k = 0;
     while k < 8 {
@@ -174,7 +187,7 @@ pub fn print(row: Row, a: &[u8], b: &[u8], c: &[u8], text: &mut [u8], at: usize)
         if sort == 0 {
             return at;
         }
-        at = piece(sort, row.values[k], a, b, c, text, at);
+        at = piece(sort, values[k], buffer(sort, a, b, c), text, at);
         sorts = sorts / 16;
         k += 1;
     }

@@ -3,7 +3,6 @@ use crate::number;
 use crate::rows;
 use crate::say;
 use types::COUNTER_ENTRIES;
-use types::CounterEntry;
 use types::PARTS;
 use types::SLOTS;
 use types::Slot;
@@ -51,8 +50,11 @@ fn head(x: Slot, text: &mut [u8], at: usize) -> usize {
     alone(key, text, at)
 }
 
-fn parts(lengths: [u8; PARTS], held: [bool; PARTS], text: &mut [u8], from: usize) -> usize {
-    let mut at = from;
+// The same, and each part.
+pub fn slot(x: Slot, text: &mut [u8], at: usize) -> usize {
+    let mut at = head(x, text, at);
+    let lengths = x.lengths;
+    let held = x.held;
     let mut i = 0;
     while i < PARTS {
         at = part(held[i], i, lengths[i], text, at);
@@ -61,65 +63,32 @@ fn parts(lengths: [u8; PARTS], held: [bool; PARTS], text: &mut [u8], from: usize
     at
 }
 
-// The same, and each part.
-pub fn slot(x: Slot, text: &mut [u8], at: usize) -> usize {
-    let at = head(x, text, at);
-    let lengths = x.lengths;
-    let held = x.held;
-    parts(lengths, held, text, at)
-}
-
-fn next_slot(x: Slot, text: &mut [u8], at: usize) -> usize {
-    let at = say(b";", text, at);
-    slot(x, text, at)
-}
-
-fn slots(slots: [Slot; SLOTS], n: usize, text: &mut [u8], from: usize) -> usize
-    requires { ⌜ n ≤ 5 ⌝ }
-{
-    let mut at = from;
-    let mut i = 0;
-    while i < n {
-        at = next_slot(slots[i], text, at);
-        i += 1;
-    }
-    at
-}
-
 // `record KIND`, and `; SLOT` for each slot.
 pub fn record(r: types::Record, text: &mut [u8], at: usize) -> usize {
     let kind = r.kind;
-    let at = alone(rows::head(kind), text, at);
-    let all = r.slots;
-    slots(all, printed(r.count, SLOTS), text, at)
-}
-
-// ---- counters
-fn next_entry(e: CounterEntry, text: &mut [u8], at: usize) -> usize {
-    let at = say(b";", text, at);
-    alone(rows::entry(e), text, at)
-}
-
-fn entries(
-    entries: [CounterEntry; COUNTER_ENTRIES],
-    n: usize,
-    text: &mut [u8],
-    from: usize,
-) -> usize
-    requires { ⌜ n ≤ 16 ⌝ }
-{
-    let mut at = from;
+    let mut at = alone(rows::head(kind), text, at);
+    let slots = r.slots;
+    let n = printed(r.count, SLOTS);
     let mut i = 0;
     while i < n {
-        at = next_entry(entries[i], text, at);
+        at = say(b";", text, at);
+        at = slot(slots[i], text, at);
         i += 1;
     }
     at
 }
 
+// ---- counters
 // `counters N`, and `; TAR CNTR` for each entry that is in use.
 pub fn counters(c: types::Counters, text: &mut [u8], at: usize) -> usize {
-    let at = alone(rows::one(rows::COUNTERS, 6, c.count as u64), text, at);
-    let all = c.entries;
-    entries(all, printed(c.count, COUNTER_ENTRIES), text, at)
+    let mut at = alone(rows::one(rows::COUNTERS, 6, c.count as u64), text, at);
+    let entries = c.entries;
+    let n = printed(c.count, COUNTER_ENTRIES);
+    let mut i = 0;
+    while i < n {
+        at = say(b";", text, at);
+        at = alone(rows::entry(entries[i]), text, at);
+        i += 1;
+    }
+    at
 }

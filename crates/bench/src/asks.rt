@@ -5,12 +5,12 @@ use words::line::Line;
 use words::table;
 
 // Prints the answer of a line, with what was made of it.
-pub(crate) fn say(
+pub(crate) fn say<'a>(
     l: Line,
     octets: &[u8],
     made: Made,
-    cells: &[u8],
-    output: &[u8],
+    cells: &'a [u8],
+    output: &'a [u8],
     buffer: &mut [u8],
     text: &mut [u8],
     at: usize,
