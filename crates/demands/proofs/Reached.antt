@@ -26,7 +26,7 @@ use Rattle.slots.specs.Below.{allBelow}
 use Rattle.slots.specs.BelowLaws.{all-at, count-at-most}
 use Rattle.slots.specs.RankLaws.{hasRank, rank-bound, ranks-differ, Aged, free, moves, yields, stays, aged?}
 use Rattle.slots.specs.FrontLaws.{front-here, front-there}
-use Rattle.slots.specs.Slots.{slotAt, opened, atRank, withPart, withSlots, sameKey, aged, agedSlot, toFront}
+use Rattle.slots.specs.Slots.{slotAt, opened, atRank, atFront, withPart, withSlots, sameKey, aged, agedSlot, toFront}
 use Rattle.formed.specs.Laws.{Formed, array-holds}
 use Rattle.series.specs.Cells.{cellsSize}
 use Rattle.series.specs.Taking as Taking
@@ -129,7 +129,7 @@ module _ (n : ℕ) (good : Slots n) (b : ℕ) where
 
     -- one key more
     module _ (m : ℕ) (f : Crowd m st) (follows : X .sender ≡ suc m) (i : ℕ) (y : Slot) (inside : i < n) (is : y .key ≡ X) where
-      here : slotAt (toFront xs i y) i ≡ atRank 1 y
+      here : slotAt (toFront xs i y) i ≡ atFront y
       here = front-here xs i y (omega (arith, array-holds n Command xs formed-here))
 
       module _ (j : ℕ) (l : j < n) (ne : j ≡ i → ⊥) where

@@ -16,7 +16,7 @@ use Rattle.types.specs.declared.Key.{Key}
 use Rattle.arrival.specs.Message.{mostParts}
 use Rattle.arrival.specs.Keys.{lengthFits}
 use Rattle.types.specs.declared.Slot.{Slot}
-use Rattle.slots.specs.Slots.{slotAt, atRank, heldAt, lengthAt, withPart, aged, closed, toFront}
+use Rattle.slots.specs.Slots.{slotAt, atRank, atFront, heldAt, lengthAt, withPart, aged, closed, toFront}
 use Rattle.formed.specs.Formed.{markAt, sizeAt}
 use Rattle.slots.specs.RankLaws.{Aged, free, moves, yields, stays, aged?, closed-near, closed-far, pos-taken}
 use Rattle.slots.specs.FrontLaws.{front-here}
@@ -27,34 +27,6 @@ use Rattle.series.specs.CaseLaws.{Bears, Lacks}
 use Rattle.series.specs.KeepLaws.{short}
 use Rattle.demands.specs.Lists.{elem, elemKey, add}
 use Rattle.demands.proofs.Lists.{elem-add}
-
--- ---- ranks keep their order
-pub aged-mono : (r p q : ℕ) → p ≤ q → aged r p ≤ aged r q
-aged-mono r p q l = go (aged? r p) (aged? r q)
-  where
-    go : Aged r p → Aged r q → aged r p ≤ aged r q
-    go (free a e) b = omega arith
-    go (moves a z m e) (free b f) = omega arith
-    go (moves a z m e) (moves b y h f) = omega arith
-    go (moves a z m e) (yields b y f) = absurd (z y)
-    go (moves a z m e) (stays b y h f) = omega arith
-    go (yields a z e) (free b f) = omega arith
-    go (yields a z e) (moves b y h f) = absurd (y z)
-    go (yields a z e) (yields b y f) = omega arith
-    go (yields a z e) (stays b y h f) = omega arith
-    go (stays a z m e) (free b f) = omega arith
-    go (stays a z m e) (moves b y h f) = omega arith
-    go (stays a z m e) (yields b y f) = omega arith
-    go (stays a z m e) (stays b y h f) = omega arith
-
-pub closed-mono : (r p q : ℕ) → p ≤ q → closed r p ≤ closed r q
-closed-mono r p q l = go (leb p r) refl (leb q r) refl
-  where
-    go : (a : Bool) → leb p r ≡ a → (b : Bool) → leb q r ≡ b → closed r p ≤ closed r q
-    go true e true f = rw (closed-near r p (leb-true p r e), closed-near r q (leb-true q r f)) l
-    go true e false f = rw (closed-near r p (leb-true p r e), closed-far r q (leb-false q r f)) (omega (arith, leb-true p r e, leb-false q r f))
-    go false e true f = absurd (omega (arith, leb-false p r e, leb-true q r f))
-    go false e false f = rw (closed-far r p (leb-false p r e), closed-far r q (leb-false q r f)) (omega arith)
 
 -- a part's length in a well-formed slot is that of a cell at most
 pub length-short : (k : Kind) (x : Slot) → UsedSlot k x → (m : ℕ) → 1 ≤ m → m ≤ mostParts → lengthAt x m ≤ cellOctets
@@ -149,7 +121,7 @@ module _ (n : ℕ) (K : Key) (parts : List (List ℕ)) where
     abbrev y : Slot
     y = withPart x number (length o)
 
-    here : slotAt (toFront xs i y) i ≡ atRank 1 y
+    here : slotAt (toFront xs i y) i ≡ atFront y
     here = front-here xs i y (omega arith)
 
     mark-kept : (m : ℕ) → 1 ≤ m → m ≤ mostParts → Same m number → heldAt y m ≡ eqb m number || elem m got

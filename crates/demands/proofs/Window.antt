@@ -22,7 +22,7 @@ use Rattle.arrival.specs.Laws.{Admitted}
 use Rattle.joined.specs.Fronts.{packetIn}
 use Rattle.types.specs.declared.Slot.{Slot}
 use Rattle.slots.specs.BelowLaws.{all-at, all-same, count-at-most}
-use Rattle.slots.specs.Slots.{slotAt, opened, used, atRank, heldAt, lengthAt, withPart, withSlots, aged, closed, toFront, freed}
+use Rattle.slots.specs.Slots.{slotAt, opened, used, atRank, atFront, heldAt, lengthAt, withPart, withSlots, aged, closed, toFront, freed}
 use Rattle.formed.specs.Formed.{markAt}
 use Rattle.slots.specs.RankLaws.{hasRank, pos-taken, aged-taken, closed-taken, rank-bound, ranks-differ}
 use Rattle.slots.specs.FrontLaws.{front-here, front-there, freed-here, freed-there}
@@ -78,7 +78,7 @@ module _ (n : ℕ) (K : Key) (parts : List (List ℕ)) where
     fronted j inside y e cells′ stay apart (during z track) =
         during z (λ few.
         let tr = track (omega (arith, length-add-key X since)) in
-        let here : slotAt (toFront xs j y) j ≡ atRank 1 y = front-here xs j y (omega (arith, array-holds n k xs w)) in
+        let here : slotAt (toFront xs j y) j ≡ atFront y = front-here xs j y (omega (arith, array-holds n k xs w)) in
         track-moved n K parts xs (toFront xs j y) j (aged (slotAt xs j .rank)) (aged-taken (slotAt xs j .rank)) (aged-mono (slotAt xs j .rank)) (front-there xs j y)
         cells cells′ i got since (addKey X since) (apart few tr) tr (λ Y. elem-key-add X Y since)
         (λ u. rw (here, e) (elem-key-self X since))

@@ -1,6 +1,6 @@
 -- What the proofs of well-formedness cite: one law for each return, call and turn of a loop, over plain variables.
 use Prim.Native.Nat.{ℕ, _+_, _-_, _≤_, _<_}
-use mathlib.Core.Path.{_≡_, refl, sym}
+use mathlib.Core.Path.{_≡_, refl, sym, _∙_}
 use mathlib.Core.Bool.{Bool, true, false, not, cond, _&&_, _||_}
 use mathlib.Core.List.{List}
 use lib.ListN.{length}
@@ -16,12 +16,12 @@ use Rattle.arrival.specs.Page.{identifierInRange, noPages, pageContent}
 use Rattle.arrival.specs.Keys.{ofPages, referenceFits, messageKeyFormed, pageKeyFormed, keyFormed, totalFits, room, lengthFits}
 use Rattle.types.specs.declared.Slot.{Slot}
 use Rattle.slots.specs.Below.{allBelow}
-use Rattle.slots.specs.BelowLaws.{all-both, fault-from, fault-more, fault-through, all-but-first, all-from, all-more, all-through, any-from, any-more, any-through, count-from, count-more, count-through}
+use Rattle.slots.specs.BelowLaws.{all-same, all-both, fault-from, fault-more, fault-through, all-but-first, all-from, all-more, all-through, any-from, any-more, any-through, count-from, count-more, count-through}
 use Rattle.types.specs.declared.Record.{Record}
 use Rattle.slots.specs.Slots.{mostSlots, slotAt, used, isFree, sameKey}
-use Rattle.formed.specs.Formed.{sixteen, markAt, sizeAt, zeroKey, zeroPart, allZero, partFormed, heldCount, usedFormed, slotFormed, keyTwice, keysDiffer, usedCount, isRank, ranked, slotsFormed, recordFormed}
+use Rattle.formed.specs.Formed.{sixteen, markAt, sizeAt, zeroKey, zeroPart, allZero, partFormed, heldCount, usedFormed, slotFormed, mostBeats, keyTwice, keysDiffer, countAhead, inStep, countsFollow, usedCount, isRank, ranked, slotsFormed, recordFormed}
 use Rattle.formed.specs.Laws.{number-tells}
-use Rattle.formed.specs.Pieces.{fewest, most, partWithin, slotHolds, slotsHold, keyDiffers}
+use Rattle.formed.specs.Pieces.{fewest, most, partWithin, slotHolds, slotsHold, pairHolds, apartBefore, slotsApart}
 use Rattle.slots.specs.Found.{length-of-map}
 
 -- ---- keys
@@ -151,14 +151,14 @@ module _ (x : Slot) where
 
 -- ---- slots
 pub zero-told : (x : Slot) (a b : Bool) → a ≡ zeroKey (x .key) → b ≡ allBelow mostParts (zeroPart x)
-    → a && eqb (x .total) 0 && b ≡ allZero x
+    → a && eqb (x .total) 0 && eqb (x .beats) 0 && b ≡ allZero x
 unfolding allZero
 zero-told x a b e f = rw (e, f)
 
 module _ (k : Kind) (x : Slot) where
   pub used-told : (a b c : Bool) (m : ℕ) → a ≡ keyFormed k (x .key) → b ≡ totalFits (x .key) (x .total)
       → c ≡ allBelow mostParts (partFormed x) → m ≡ heldCount x
-      → a && b && c && ltb 0 m && ltb m (x .total) ≡ usedFormed k x
+      → a && b && c && ltb 0 m && ltb m (x .total) && leb (x .beats) mostBeats ≡ usedFormed k x
   unfolding usedFormed
   used-told a b c m p q r s = rw (p, q, r, s)
 
@@ -175,15 +175,24 @@ module _ (k : Kind) (x : Slot) where
     slot-used z e = rw (sixteen-told, ne-eqb (x .rank) 0 z) e
 
 -- ---- the record
-module _ (xs : List Slot) where
-  pub differ-more : (i j : ℕ) (ok same : Bool) → ok ≡ allBelow j (λ j. not (keyTwice xs i j))
-      → same ≡ sameKey (slotAt xs i .key) (slotAt xs j .key)
-      → ok && not (used (slotAt xs i) && used (slotAt xs j) && same) ≡ allBelow (j + 1) (λ j. not (keyTwice xs i j))
-  differ-more i j ok same e f = all-more (λ j. not (keyTwice xs i j)) j ok _ e (rw f)
+pub twice-told : (x y : Slot) (same : Bool) → same ≡ sameKey (x .key) (y .key) → used x && used y && same ≡ used x && used y && sameKey (x .key) (y .key)
+twice-told x y same e = rw e
 
-  pub differ-told : (n i : ℕ) (ok : Bool) → ok ≡ allBelow i (keyDiffers xs) → i ≤ n → n ≤ i → ok ≡ keysDiffer n xs
-  unfolding keysDiffer
-  differ-told n i ok e l m = all-through (keyDiffers xs) i n l m ok e
+module _ (xs : List Slot) where
+  pub apart-more : (i j : ℕ) (ok a b c : Bool) → ok ≡ allBelow j (pairHolds xs i) → a ≡ keyTwice xs i j
+      → b ≡ countAhead (slotAt xs i) (slotAt xs j) → c ≡ countAhead (slotAt xs j) (slotAt xs i)
+      → ok && (not a && (not b && not c)) ≡ allBelow (j + 1) (pairHolds xs i)
+  apart-more i j ok a b c e f g h = all-more (pairHolds xs i) j ok _ e (rw (f, g, h))
+
+  pub apart-told : (n i : ℕ) (ok : Bool) → ok ≡ allBelow i (apartBefore xs) → i ≤ n → n ≤ i → ok ≡ slotsApart n xs
+  apart-told n i ok e l m = all-through (apartBefore xs) i n l m ok e
+
+  -- two tests of each pair at once
+  both-apart : (n : ℕ) → slotsApart n xs ≡ keysDiffer n xs && countsFollow n xs
+  unfolding keysDiffer countsFollow
+  both-apart n =
+      all-same n (apartBefore xs) (λ i. allBelow i (λ j. not (keyTwice xs i j)) && allBelow i (inStep xs i)) (λ i l. all-both i (λ j. not (keyTwice xs i j)) (inStep xs i))
+      ∙ all-both n (λ i. allBelow i (λ j. not (keyTwice xs i j))) (λ i. allBelow i (inStep xs i))
 
   pub ranked-told : (n m r : ℕ) (ok : Bool) → m ≡ usedCount n xs → ok ≡ allBelow r (λ r. isRank n xs (r + 1)) → r ≤ m → m ≤ r
       → ok ≡ ranked n xs
@@ -195,13 +204,22 @@ module _ (xs : List Slot) where
   slot-more n i k ok b e f = all-more (slotHolds n k xs) i ok _ e (rw f)
 
 pub formed-told : (r : Record) (a b c : Bool) → (not (eqb (r .count) 0) && not (ltb mostSlots (r .count))) ≡ true → length (r .slots) ≡ mostSlots
-    → a ≡ slotsHold (r .count) (r .kind) (r .slots) → b ≡ keysDiffer (r .count) (r .slots) → c ≡ ranked (r .count) (r .slots)
+    → a ≡ slotsHold (r .count) (r .kind) (r .slots) → b ≡ slotsApart (r .count) (r .slots) → c ≡ ranked (r .count) (r .slots)
     → a && b && c ≡ recordFormed (r .count) r
 unfolding slotsFormed
 formed-told r a b c t l p q s =
     let each : ℕ → Bool = λ i. slotFormed (r .kind) (slotAt (r .slots) i) in
     let free : ℕ → Bool = λ i. ltb i (r .count) || isFree (slotAt (r .slots) i) in
-    rw (eq-eqb (r .count) (r .count) refl, t, eq-eqb (length (r .slots)) mostSlots l, p, q, s, all-both mostSlots each free)
+    rw (eq-eqb (r .count) (r .count) refl, t, eq-eqb (length (r .slots)) mostSlots l, p, q, s, all-both mostSlots each free, both-apart (r .slots) (r .count))
+    (turn (allBelow mostSlots each && allBelow mostSlots free) (keysDiffer (r .count) (r .slots)) (countsFollow (r .count) (r .slots)) (ranked (r .count) (r .slots)))
+  where
+    turn : (a k f d : Bool) → a && (k && f) && d ≡ a && k && d && f
+    turn true true true true = refl
+    turn true true true false = refl
+    turn true true false true = refl
+    turn true true false false = refl
+    turn true false f d = refl
+    turn false k f d = refl
 
 pub number-inside : (n : ℕ) → (not (eqb n 0) && not (ltb mostSlots n)) ≡ true → n ≤ mostSlots
 number-inside n t = number-tells n t .1
@@ -242,8 +260,9 @@ pub ruleset formedSteps = (
   used-told,
   slot-free,
   slot-used,
-  differ-more,
-  differ-told,
+  twice-told,
+  apart-more,
+  apart-told,
   slot-more,
   not-formed,
   number-inside,

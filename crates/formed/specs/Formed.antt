@@ -1,9 +1,9 @@
--- Which records are well formed (01, "Numbers"; 02 [5]): those that the library can have made.
+-- Which records are well formed (01, "Numbers"; 02 [5], [6]): those that the library can have made.
 use Prim.Native.Nat.{ℕ, _+_}
 use mathlib.Core.Bool.{Bool, false, not, cond, _&&_, _||_}
 use mathlib.Core.List.{List}
 use lib.ListN.{length, getD}
-use lib.Dec.{eqb, ltb}
+use lib.Dec.{eqb, ltb, leb}
 use Rattle.types.specs.declared.Kind.{Kind}
 use Rattle.types.specs.declared.Key.{Key}
 use Rattle.arrival.specs.Message.{mostParts}
@@ -33,7 +33,7 @@ abbrev pub zeroPart : Slot → ℕ → Bool
 zeroPart x i = not (markAt x i) && eqb (sizeAt x i) 0
 
 unfoldable pub allZero : Slot → Bool
-allZero x = zeroKey (x .key) && eqb (x .total) 0 && allBelow mostParts (zeroPart x)
+allZero x = zeroKey (x .key) && eqb (x .total) 0 && eqb (x .beats) 0 && allBelow mostParts (zeroPart x)
 
 -- "none past the total, length 0 where not held", and where held a length that the key allows
 abbrev pub partFormed : Slot → ℕ → Bool
@@ -43,11 +43,15 @@ partFormed x i = cond (markAt x i) (ltb i (x .total) && lengthFits (x .key) (i +
 abbrev pub heldCount : Slot → ℕ
 heldCount x = countBelow mostParts (markAt x)
 
+-- "a count of beats since it was last touched, 0 to 254", "no count of 255" (02 [6])
+abbrev pub mostBeats : ℕ
+mostBeats = 254
+
 -- "a used one has a total of 2 to 16, at least one part held, not all"
 unfoldable pub usedFormed : Kind → Slot → Bool
 usedFormed k x =
     keyFormed k (x .key) && totalFits (x .key) (x .total) && allBelow mostParts (partFormed x)
-    && ltb 0 (heldCount x) && ltb (heldCount x) (x .total)
+    && ltb 0 (heldCount x) && ltb (heldCount x) (x .total) && leb (x .beats) mostBeats
 
 unfoldable pub slotFormed : Kind → Slot → Bool
 slotFormed k x = sixteen x && cond (used x) (usedFormed k x) (allZero x)
@@ -69,6 +73,16 @@ isRank n xs r = anyBelow n (λ i. eqb (slotAt xs i .rank) r)
 unfoldable pub ranked : ℕ → List Slot → Bool
 ranked n xs = allBelow (usedCount n xs) (λ r. isRank n xs (r + 1))
 
+-- "no used slot has a higher count than a less recent one" (02 [6]): x does, than y
+abbrev pub countAhead : Slot → Slot → Bool
+countAhead x y = used x && ltb (x .rank) (y .rank) && ltb (y .beats) (x .beats)
+
+abbrev pub inStep : List Slot → ℕ → ℕ → Bool
+inStep xs i j = not (countAhead (slotAt xs i) (slotAt xs j)) && not (countAhead (slotAt xs j) (slotAt xs i))
+
+unfoldable pub countsFollow : ℕ → List Slot → Bool
+countsFollow n xs = allBelow n (λ i. allBelow i (inStep xs i))
+
 -- "A well-formed record has 1 to 5, slots past these all zero" (02 [5]): they are free, and a free slot is all zero
 abbrev pub restFree : ℕ → List Slot → Bool
 restFree n xs = allBelow mostSlots (λ i. ltb i n || isFree (slotAt xs i))
@@ -76,7 +90,7 @@ restFree n xs = allBelow mostSlots (λ i. ltb i n || isFree (slotAt xs i))
 unfoldable pub slotsFormed : ℕ → Kind → List Slot → Bool
 slotsFormed n k xs =
     isSlotNumber n && eqb (length xs) mostSlots && allBelow mostSlots (λ i. slotFormed k (slotAt xs i)) && restFree n xs && keysDiffer n xs
-    && ranked n xs
+    && ranked n xs && countsFollow n xs
 
 -- a record of n slots
 abbrev pub recordFormed : ℕ → Record → Bool

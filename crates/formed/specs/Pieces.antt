@@ -10,7 +10,7 @@ use Rattle.arrival.specs.Keys.{ofPages, room}
 use Rattle.types.specs.declared.Slot.{Slot}
 use Rattle.slots.specs.Below.{allBelow}
 use Rattle.slots.specs.Slots.{mostSlots, slotAt, isFree}
-use Rattle.formed.specs.Formed.{markAt, sizeAt, slotFormed, keyTwice}
+use Rattle.formed.specs.Formed.{markAt, sizeAt, slotFormed, keyTwice, inStep}
 
 -- of `lengthFits`: the fewest octets of a part, and the most of part `number`
 abbrev pub fewest : Key → ℕ
@@ -31,6 +31,12 @@ slotHolds n k xs i = slotFormed k (slotAt xs i) && (ltb i n || isFree (slotAt xs
 abbrev pub slotsHold : ℕ → Kind → List Slot → Bool
 slotsHold n k xs = allBelow mostSlots (slotHolds n k xs)
 
--- of `keysDiffer`: slot i and those before it
-abbrev pub keyDiffers : List Slot → ℕ → Bool
-keyDiffers xs i = allBelow i (λ j. not (keyTwice xs i j))
+-- of `keysDiffer` and `countsFollow`: slots i and j, and slot i with each before it
+abbrev pub pairHolds : List Slot → ℕ → ℕ → Bool
+pairHolds xs i j = not (keyTwice xs i j) && inStep xs i j
+
+abbrev pub apartBefore : List Slot → ℕ → Bool
+apartBefore xs i = allBelow i (pairHolds xs i)
+
+abbrev pub slotsApart : ℕ → List Slot → Bool
+slotsApart n xs = allBelow n (apartBefore xs)

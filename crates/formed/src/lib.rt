@@ -13,15 +13,15 @@ use types::Record;
 use types::SLOTS;
 use types::Slot;
 ghost use mathlib.Core.Path.{_≡_};
-ghost use mathlib.Core.Bool.{cond};
+ghost use mathlib.Core.Bool.{cond, _&&_};
 ghost use Prim.Native.Nat.{_≤_, _<_};
 ghost use lib.ListN.{length};
 ghost use Rattle.arrival.specs.Message.{mostParts};
 ghost use Rattle.arrival.specs.Keys.{messageKeyFormed, pageKeyFormed, keyFormed, totalFits};
 ghost use Rattle.slots.specs.Below.{allBelow};
-ghost use Rattle.slots.specs.Slots.{mostSlots};
-ghost use Rattle.formed.specs.Formed.{zeroKey, zeroPart, allZero, partFormed, heldCount, usedFormed, slotFormed, keysDiffer, usedCount, isRank, ranked, recordFormed};
-ghost use Rattle.formed.specs.Pieces.{fewest, most, slotsHold, keyDiffers};
+ghost use Rattle.slots.specs.Slots.{mostSlots, used, sameKey};
+ghost use Rattle.formed.specs.Formed.{zeroKey, zeroPart, allZero, partFormed, heldCount, usedFormed, slotFormed, countAhead, usedCount, isRank, ranked, recordFormed};
+ghost use Rattle.formed.specs.Pieces.{fewest, most, slotsHold, apartBefore, slotsApart};
 
 // A flag as a number, to count it.
 fn one(flag: bool) -> u8
@@ -120,7 +120,7 @@ fn all_zero(x: Slot) -> bool
 {
     let key = x.key;
     let none = zero_parts(x);
-    zero_key(key) & (x.total == 0) & none
+    zero_key(key) & (x.total == 0) & (x.beats == 0) & none
 }
 
 // Whether each part of a used slot is as it can be. The bounds of a length depend on the key alone, but for part 1, which is looked at by
@@ -160,7 +160,7 @@ fn held_count(x: Slot) -> u8
     m
 }
 
-// Whether a used slot is well formed: key, total and parts, at least one held and not all.
+// Whether a used slot is well formed: key, total and parts, at least one held and not all, and its count of beats.
 fn used_formed(kind: Kind, x: Slot) -> bool
     ensures { λ r. ⌜ r ≡ usedFormed kind x ⌝ }
 {
@@ -168,7 +168,12 @@ fn used_formed(kind: Kind, x: Slot) -> bool
     let total = x.total;
     let m = held_count(x);
     let parts = parts_formed(x);
-    key_formed(kind, key) & total_fits(key, total) & parts & (0 < m) & (m < total)
+    key_formed(kind, key)
+        & total_fits(key, total)
+        & parts
+        & (0 < m)
+        & (m < total)
+        & (x.beats <= 254)
 }
 
 // Whether a slot is well formed, used or free.
@@ -197,35 +202,48 @@ fn slots_formed(state: Record) -> bool
     ok
 }
 
-// Whether the key of slot i is no used slot's before it.
-fn key_differs(state: Record, i: usize) -> bool
+// Whether two slots are used with one key.
+fn key_twice(x: Slot, y: Slot) -> bool
+    ensures { λ r. ⌜ r ≡ (used x && used y && sameKey (x .key) (y .key)) ⌝ }
+{
+    let key = x.key;
+    let other = y.key;
+    let same = same_key(key, other);
+    (x.rank != 0) & (y.rank != 0) & same
+}
+
+// Whether a used slot has a higher count of beats than a less recent one.
+fn count_ahead(x: Slot, y: Slot) -> bool
+    ensures { λ r. ⌜ r ≡ countAhead x y ⌝ }
+{
+    (x.rank != 0) & (x.rank < y.rank) & (y.beats < x.beats)
+}
+
+// Whether the key of slot i is no used slot's before it, and the counts of beats of slot i and of each before it follow recency.
+fn apart_before(state: Record, i: usize) -> bool
     requires { ⌜ i < mostSlots ⌝ }
-    ensures { λ r. ⌜ r ≡ keyDiffers (state .slots) i ⌝ }
+    ensures { λ r. ⌜ r ≡ apartBefore (state .slots) i ⌝ }
 {
     let x = state.slots[i];
-    let key = x.key;
-    let used = x.rank != 0;
     let mut ok = true;
     let mut j = 0;
     while j < i {
         let y = state.slots[j];
-        let other = y.key;
-        let same = same_key(key, other);
-        ok = ok & !(used & (y.rank != 0) & same);
+        ok = ok & (!key_twice(x, y) & (!count_ahead(x, y) & !count_ahead(y, x)));
         j = j + 1;
     }
     ok
 }
 
-// Whether no two used slots of the first n have one key.
-fn keys_differ(state: Record, n: usize) -> bool
+// Whether no two used slots of the first n have one key, and none has a higher count of beats than a less recent one.
+fn slots_apart(state: Record, n: usize) -> bool
     requires { ⌜ n ≤ mostSlots ⌝ }
-    ensures { λ r. ⌜ r ≡ keysDiffer n (state .slots) ⌝ }
+    ensures { λ r. ⌜ r ≡ slotsApart n (state .slots) ⌝ }
 {
     let mut ok = true;
     let mut i = 0;
     while i < n {
-        ok = ok & key_differs(state, i);
+        ok = ok & apart_before(state, i);
         i = i + 1;
     }
     ok
@@ -282,7 +300,7 @@ pub fn record_formed(state: Record) -> bool
 {
     let n = state.count as usize;
     if (n != 0) & !(SLOTS < n) {
-        return slots_formed(state) & keys_differ(state, n) & ranked(state, n);
+        return slots_formed(state) & slots_apart(state, n) & ranked(state, n);
     }
     false
 }

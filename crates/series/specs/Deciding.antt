@@ -23,7 +23,7 @@ use Rattle.series.specs.declared.take.Change.{Change}
 use Rattle.series.specs.declared.take.Step.the-variants.{Refuses, Repeats, Keeps, Finishes}
 use Rattle.slots.specs.declared.find.Seat.{Seat}
 use Rattle.slots.specs.Below.{allBelow}
-use Rattle.slots.specs.Slots.{slotAt, atRank, noKey, freeSlot, slotsIn, freshRecord}
+use Rattle.slots.specs.Slots.{slotAt, atRank, atFront, noKey, freeSlot, slotsIn, freshRecord}
 use Rattle.slots.specs.Found.{seatOf}
 use Rattle.slots.specs.Order.{replaced}
 use Rattle.series.specs.Cells.{cellOctets, joinedOctets}
@@ -76,7 +76,7 @@ pub record Whole (x : Slot) (i number : ℕ) (octets cells output : List ℕ) : 
 -- ---- the change
 -- slot i comes to the front, as x; slot i is freed
 abbrev pub fronted : response.Answer → ℕ → Slot → Change
-fronted a i x = record { answer = a; moves = true; front = true; slot = i; entry = atRank 1 x }
+fronted a i x = record { answer = a; moves = true; front = true; slot = i; entry = atFront x }
 
 abbrev pub emptied : response.Answer → ℕ → Change
 emptied a i = record { answer = a; moves = true; front = false; slot = i; entry = freeSlot }

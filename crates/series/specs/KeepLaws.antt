@@ -18,7 +18,7 @@ use Rattle.arrival.specs.Laws.{Admitted}
 use Rattle.joined.specs.Fronts.{packetIn}
 use Rattle.types.specs.declared.Slot.{Slot}
 use Rattle.types.specs.declared.Record.{Record}
-use Rattle.slots.specs.Slots.{slotAt, opened, atRank, withPart, heldAt, freed, withSlots}
+use Rattle.slots.specs.Slots.{slotAt, opened, atRank, atFront, withPart, heldAt, freed, withSlots}
 use Rattle.formed.specs.Formed.{slotFormed}
 use Rattle.formed.specs.Laws.{Formed, UsedSlot, slot-tells, slot-front, front-formed, free-formed}
 use Rattle.series.specs.PartLaws.{total-bounds, ready-held, ready-opened, part-more}
@@ -66,7 +66,7 @@ module _ (n : ℕ) (s : State) (w : Sound n (s .rec) (s .cells)) where
     sixteen = omega (arith, adm .high, total-bounds key total (adm .totalFits))
 
     -- slot i comes to the front with the part: no other slot has the key
-    kept-sound : (i : ℕ) → i < n → (d : Bool) (x : Slot) → x .key ≡ key → slotFormed k (atRank 1 (withPart x number (length octets))) ≡ true
+    kept-sound : (i : ℕ) → i < n → (d : Bool) (x : Slot) → x .key ≡ key → slotFormed k (atFront (withPart x number (length octets))) ≡ true
         → ((j : ℕ) → j < n → (j ≡ i → ⊥) → 0 < slotAt xs j .rank → slotAt xs j .key ≡ key → ⊥)
         → SoundAfter n (acted n s key total number octets (keeps i d x))
     kept-sound i l d x e ok alone = record {
@@ -75,7 +75,7 @@ module _ (n : ℕ) (s : State) (w : Sound n (s .rec) (s .cells)) where
       size = cells-size n (s .cells) (w .size) i number l low sixteen octets (short key number (length octets) (adm .lengthFits));
     }
 
-    opened-formed : slotFormed k (atRank 1 (withPart (opened key total) number (length octets))) ≡ true
+    opened-formed : slotFormed k (atFront (withPart (opened key total) number (length octets))) ≡ true
     opened-formed =
         slot-front k (withPart (opened key total) number (length octets))
         (part-more k (opened key total) number (length octets) (ready-opened k key total number (adm .keyFormed) (adm .totalFits) low (adm .high)) low (adm .high) (adm .lengthFits))
@@ -88,7 +88,7 @@ module _ (n : ℕ) (s : State) (w : Sound n (s .rec) (s .cells)) where
       alone-there j l ne u q = ne (w .formed .keys j i l (b .inside) u (b .used) (q ∙ sym (b .key)))
 
       more-formed : slotAt xs i .total ≡ total → heldAt (slotAt xs i) number ≡ false → completes (slotAt xs i) number ≡ false
-          → slotFormed k (atRank 1 (withPart (slotAt xs i) number (length octets))) ≡ true
+          → slotFormed k (atFront (withPart (slotAt xs i) number (length octets))) ≡ true
       more-formed t h c =
           slot-front k (withPart (slotAt xs i) number (length octets))
           (part-more k (slotAt xs i) number (length octets) (ready-held k (slotAt xs i) number was-used h c) low (omega (arith, adm .high)) (rw (b .key) (adm .lengthFits)))

@@ -111,12 +111,13 @@ fn unchanged(answer: Answer) -> Change
     }
 }
 
-// Slot i comes to the front, as x.
+// Slot i comes to the front, as x, and is touched: no beat has come since.
 fn to_front(answer: Answer, i: usize, x: Slot) -> Change
     ensures { λ r. ⌜ r ≡ fronted answer i x ⌝ }
 {
     let mut y = x;
     y.rank = 1;
+    y.beats = 0;
     Change {
         answer: answer,
         moves: true,

@@ -1,4 +1,3 @@
 pub mod FindLaws
 pub mod FindSteps
-pub mod OrderLaws
 pub mod OrderSteps

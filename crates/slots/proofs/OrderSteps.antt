@@ -15,8 +15,7 @@ use Rattle.types.specs.declared.Slot.{Slot}
 use Rattle.types.specs.declared.Record.{Record}
 use Rattle.slots.specs.Slots.{mostSlots, slotAt, atRank, aged, closed, withSlots, slotsIn}
 use Rattle.slots.specs.Found.{length-of-map}
-use Rattle.slots.specs.Order.{rankAfter, firstRanked, replaced}
-use Rattle.slots.proofs.OrderLaws.{Changed, first-next, first-more}
+use Rattle.slots.specs.Order.{rankAfter, firstWith, reranked, first-next, first-more, Changed, replaced}
 
 -- ---- ranks
 module _ (front : Bool) (r q : ℕ) where
@@ -59,26 +58,26 @@ module _ (front : Bool) (r q : ℕ) where
 
 -- ---- a loop that changes the ranks
 module _ (g : ℕ → ℕ) (n : ℕ) (r : Record) where
-  pub change-starts : length (r .slots) ≡ mostSlots → n ≤ mostSlots → Changed g n r r 0
-  unfolding firstRanked
+  pub change-starts : length (r .slots) ≡ mostSlots → n ≤ mostSlots → Changed (reranked g) n r r 0
+  unfolding firstWith
   change-starts e l = record { after = e; most = l; within = omega arith; kind = refl; number = refl; slots = refl }
 
-  module _ (s : Record) (j : ℕ) (done : Changed g n r s j) where
+  module _ (s : Record) (j : ℕ) (done : Changed (reranked g) n r s j) where
     next : slotAt (s .slots) j ≡ slotAt (r .slots) j
-    next = rw (done .slots) (first-next g j (r .slots))
+    next = rw (done .slots) (first-next (reranked g) j (r .slots))
 
     pub change-goes-on : (q : ℕ) → j < n → q ≡ g (slotAt (s .slots) j .rank)
-        → Changed g n r (withSlots s (set (s .slots) j (atRank q (slotAt (s .slots) j)))) (j + 1)
+        → Changed (reranked g) n r (withSlots s (set (s .slots) j (atRank q (slotAt (s .slots) j)))) (j + 1)
     change-goes-on q l e = record {
       after = length-set (s .slots) j (atRank q (slotAt (s .slots) j)) ∙ done .after;
       most = done .most;
       within = omega arith;
       kind = done .kind;
       number = done .number;
-      slots = rw (e, next, done .slots, add-one) (first-more g j (r .slots));
+      slots = rw (e, next, done .slots, add-one) (first-more (reranked g) j (r .slots));
     }
 
-pub change-ends : (n i : ℕ) (front : Bool) (r s : Record) (j : ℕ) (x : Slot) → Changed (rankAfter front (slotAt (r .slots) i .rank)) n r s j
+pub change-ends : (n i : ℕ) (front : Bool) (r s : Record) (j : ℕ) (x : Slot) → Changed (reranked (rankAfter front (slotAt (r .slots) i .rank))) n r s j
     → n ≡ slotsIn r → n ≤ j → i < n → withSlots s (set (s .slots) i x) ≡ replaced front r i x
 change-ends n i front r s j x done is l inside =
     let end : j ≡ slotsIn r = omega (arith, done .within) in

@@ -13,22 +13,22 @@ use borrow.Author.Tests.{eqb-true, eq-eqb}
 use Rattle.octets.specs.Tests.{both}
 use Rattle.types.specs.declared.Key.{Key}
 use Rattle.types.specs.declared.Slot.{Slot}
-use Rattle.slots.specs.Slots.{noKey, slotAt, freeSlot, sameKey, atRank, aged, agedSlot, closedSlot, toFront, freed, later, find, findIn}
+use Rattle.slots.specs.Slots.{noKey, slotAt, freeSlot, sameKey, atRank, atFront, aged, agedSlot, closedSlot, toFront, freed, later, find, findIn}
 use Rattle.slots.specs.RankLaws.{closed-near}
 
 -- the slot that stands past the end of a list
 abbrev past : Slot
-past = record { rank = 0; key = noKey; total = 0; lengths = []; held = [] }
+past = record { rank = 0; beats = 0; key = noKey; total = 0; lengths = []; held = [] }
 
 module _ (xs : List Slot) (i : ℕ) where
-  pub front-here : (x : Slot) → i < length xs → slotAt (toFront xs i x) i ≡ atRank 1 x
+  pub front-here : (x : Slot) → i < length xs → slotAt (toFront xs i x) i ≡ atFront x
   unfolding toFront
-  front-here x l = getD-set-same (map (agedSlot (slotAt xs i .rank)) xs) i (atRank 1 x) past (simp length-map l)
+  front-here x l = getD-set-same (map (agedSlot (slotAt xs i .rank)) xs) i (atFront x) past (simp length-map l)
 
   pub front-there : (x : Slot) (j : ℕ) → (j ≡ i → ⊥) → slotAt (toFront xs i x) j ≡ agedSlot (slotAt xs i .rank) (slotAt xs j)
   unfolding toFront aged
   front-there x j ne =
-      getD-set-other (map (agedSlot (slotAt xs i .rank)) xs) i j (atRank 1 x) past ne ∙ List·getD-map (agedSlot (slotAt xs i .rank)) xs j past
+      getD-set-other (map (agedSlot (slotAt xs i .rank)) xs) i j (atFront x) past ne ∙ List·getD-map (agedSlot (slotAt xs i .rank)) xs j past
 
   pub front-length : (x : Slot) → length (toFront xs i x) ≡ length xs
   unfolding toFront

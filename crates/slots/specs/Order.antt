@@ -5,26 +5,61 @@ use mathlib.Core.Path.{_≡_, refl, sym, ap, _∙_}
 use mathlib.Core.Bool.{Bool, true, false, cond}
 use mathlib.Core.List.{List, [], _∷_, map}
 use native.Mathlib.Omega.{arith}
-use lib.ListN.{set}
+use lib.ListN.{length, set}
 use lib.Dec.{ltb}
 use borrow.Author.Tests.{lt-ltb, le-ltb}
 use Rattle.types.specs.declared.Slot.{Slot}
 use Rattle.types.specs.declared.Record.{Record}
-use Rattle.slots.specs.Slots.{slotAt, freeSlot, atRank, aged, closed, agedSlot, toFront, freed, withSlots, slotsIn}
+use Rattle.slots.specs.Slots.{mostSlots, slotAt, freeSlot, atRank, atFront, aged, closed, agedSlot, toFront, freed, withSlots, slotsIn}
 
 -- rank q once a slot of rank r has come to the front, or was freed; rank 255, behind which an octet has no other, stays
 abbrev pub rankAfter : Bool → ℕ → ℕ → ℕ
 rankAfter true r q = cond (ltb q 255) (aged r q) q
 rankAfter false r q = closed r q
 
--- the slots, the first j of them at the rank that g makes of their rank
+-- the slots, the first j of them as f makes them: one loop that changes one slot after the other
+unfoldable pub firstWith : (Slot → Slot) → ℕ → List Slot → List Slot
+firstWith f zero xs = xs
+firstWith f (suc j) [] = []
+firstWith f (suc j) (x ∷ xs) = f x ∷ firstWith f j xs
+
+module _ (f : Slot → Slot) where
+  -- the next is as it was
+  pub first-next : (j : ℕ) (xs : List Slot) → slotAt (firstWith f j xs) j ≡ slotAt xs j
+  unfolding firstWith
+  first-next zero xs = refl
+  first-next (suc j) [] = refl
+  first-next (suc j) (x ∷ xs) = first-next j xs
+
+  pub first-more : (j : ℕ) (xs : List Slot) → set (firstWith f j xs) j (f (slotAt xs j)) ≡ firstWith f (suc j) xs
+  unfolding firstWith
+  first-more zero [] = refl
+  first-more zero (x ∷ xs) = refl
+  first-more (suc j) [] = refl
+  first-more (suc j) (x ∷ xs) = ap (λ l. f x ∷ l) (first-more j xs)
+
+  pub first-whole : (j : ℕ) (xs : List Slot) → length xs ≡ j → firstWith f j xs ≡ map f xs
+  unfolding firstWith
+  first-whole zero [] e = refl
+  first-whole zero (x ∷ xs) e = absurd (omega arith)
+  first-whole (suc j) [] e = refl
+  first-whole (suc j) (x ∷ xs) e = ap (λ l. f x ∷ l) (first-whole j xs (omega arith))
+
+  -- s is r with its first j slots changed
+  pub record Changed (n : ℕ) (r s : Record) (j : ℕ) : Type 0 where
+    pub after : length (s .slots) ≡ mostSlots
+    pub most : n ≤ mostSlots
+    pub within : j ≤ n
+    pub kind : s .kind ≡ r .kind
+    pub number : s .count ≡ r .count
+    pub slots : s .slots ≡ firstWith f j (r .slots)
+
+-- at the rank that g makes of its rank
 abbrev pub reranked : (ℕ → ℕ) → Slot → Slot
 reranked g x = atRank (g (x .rank)) x
 
-unfoldable pub firstRanked : (ℕ → ℕ) → ℕ → List Slot → List Slot
-firstRanked g zero xs = xs
-firstRanked g (suc j) [] = []
-firstRanked g (suc j) (x ∷ xs) = reranked g x ∷ firstRanked g j xs
+abbrev pub firstRanked : (ℕ → ℕ) → ℕ → List Slot → List Slot
+firstRanked g = firstWith (reranked g)
 
 -- Slot i becomes x, and each other slot of the record is at its rank once slot i has come to the front, or was freed. Where i is none of its
 -- slots, the record stays as it is.
@@ -46,7 +81,7 @@ free-reranked g x z e = ap (λ q. atRank q x) (e ∙ sym (ap g e ∙ z))
 
 -- those past the first n are free, so it comes to the same whether they are counted in or not
 first-all : (g : ℕ → ℕ) → g 0 ≡ 0 → (n : ℕ) (xs : List Slot) → ((j : ℕ) → n ≤ j → slotAt xs j .rank ≡ 0) → firstRanked g n xs ≡ map (reranked g) xs
-unfolding firstRanked
+unfolding firstWith
 first-all g z zero [] free = refl
 first-all g z zero (x ∷ xs) free =
     let tail : xs ≡ map (reranked g) xs = first-all g z zero xs (λ j l. free (suc j) (omega arith)) in
@@ -63,7 +98,7 @@ module _ (r : Record) (i : ℕ) (inside : i < slotsIn r) (free : (j : ℕ) → s
   all-ranked front q = first-all (rankAfter front q) (kept-free front q) (slotsIn r) (r .slots) free
 
   pub front-in : (x : Slot) → ((j : ℕ) → slotAt (r .slots) j .rank < 255)
-      → replaced true r i (atRank 1 x) ≡ withSlots r (toFront (r .slots) i x)
+      → replaced true r i (atFront x) ≡ withSlots r (toFront (r .slots) i x)
   unfolding toFront
   front-in x low =
       rw (lt-ltb i (slotsIn r) inside, all-ranked true (slotAt (r .slots) i .rank), aged-all (slotAt (r .slots) i .rank) (r .slots) low)

@@ -2,13 +2,13 @@
 -- and freeing keep it so. Said of a rank for each place, whatever the slots hold besides.
 use Prim.Native.Nat.{ℕ, zero, suc, pred, _+_, _-_, _≤_, _<_}
 use mathlib.Core.Path.{_≡_, refl, sym, ap, _∙_}
-use mathlib.Core.Bool.{Bool, true, false, not, cond, _||_}
+use mathlib.Core.Bool.{Bool, true, false, not, cond, _&&_, _||_}
 use native.Mathlib.Omega.{arith}
 use lib.Dec.{eqb, leb, ltb}
-use borrow.Author.Tests.{eq-eqb, ne-eqb, eqb-true, ltb-true, ltb-false, lt-ltb, le-ltb, leb-true, leb-false}
+use borrow.Author.Tests.{eq-eqb, ne-eqb, eqb-true, ltb-true, ltb-false, lt-ltb, le-ltb, leb-true, leb-false, le-leb, lt-leb}
 use Rattle.octets.specs.Tests.{clash, Same, same, other, same?}
 use Rattle.slots.specs.Below.{allBelow, anyBelow, countBelow}
-use Rattle.slots.specs.BelowLaws.{all-at, all-hold, any-hold, any-at, count-same, count-one, count-less, count-full}
+use Rattle.slots.specs.BelowLaws.{all-at, all-hold, any-hold, any-at, count-same, count-zero, count-one, count-mono, count-less, count-full}
 use Rattle.slots.specs.Slots.{aged, closed}
 
 -- ---- the ranks of n places
@@ -247,3 +247,96 @@ module _ (n : ℕ) (rank : ℕ → ℕ) (w : Ranked n rank) (i : ℕ) (inside : 
 
       each : (r : ℕ) → r < countBelow n (hasRank rank′) → someRank n rank′ (r + 1) ≡ true
       each r l = go r l (leb (rank i) (r + 1)) refl
+
+-- ---- ranks keep their order
+pub aged-mono : (r p q : ℕ) → p ≤ q → aged r p ≤ aged r q
+aged-mono r p q l = go (aged? r p) (aged? r q)
+  where
+    go : Aged r p → Aged r q → aged r p ≤ aged r q
+    go (free a e) b = omega arith
+    go (moves a z m e) (free b f) = omega arith
+    go (moves a z m e) (moves b y h f) = omega arith
+    go (moves a z m e) (yields b y f) = absurd (z y)
+    go (moves a z m e) (stays b y h f) = omega arith
+    go (yields a z e) (free b f) = omega arith
+    go (yields a z e) (moves b y h f) = absurd (y z)
+    go (yields a z e) (yields b y f) = omega arith
+    go (yields a z e) (stays b y h f) = omega arith
+    go (stays a z m e) (free b f) = omega arith
+    go (stays a z m e) (moves b y h f) = omega arith
+    go (stays a z m e) (yields b y f) = omega arith
+    go (stays a z m e) (stays b y h f) = omega arith
+
+pub closed-mono : (r p q : ℕ) → p ≤ q → closed r p ≤ closed r q
+closed-mono r p q l = go (leb p r) refl (leb q r) refl
+  where
+    go : (a : Bool) → leb p r ≡ a → (b : Bool) → leb q r ≡ b → closed r p ≤ closed r q
+    go true e true f = rw (closed-near r p (leb-true p r e), closed-near r q (leb-true q r f)) l
+    go true e false f = rw (closed-near r p (leb-true p r e), closed-far r q (leb-false q r f)) (omega (arith, leb-true p r e, leb-false q r f))
+    go false e true f = absurd (omega (arith, leb-false p r e, leb-true q r f))
+    go false e false f = rw (closed-far r p (leb-false p r e), closed-far r q (leb-false q r f)) (omega arith)
+
+-- ---- the more recent ones alone
+-- another number than the next one is at most that exactly if it is at most this one
+leb-next : (a t : ℕ) → (a ≡ suc t → ⊥) → leb a (suc t) ≡ leb a t
+leb-next a t ne = go (leb a t) refl
+  where
+    go : (b : Bool) → leb a t ≡ b → leb a (suc t) ≡ b
+    go true e = le-leb a (suc t) (omega (arith, leb-true a t e))
+    go false e = lt-leb a (suc t) (omega (arith, leb-false a t e))
+
+module _ (n : ℕ) (rank : ℕ → ℕ) (w : Ranked n rank) where
+  abbrev upTo : ℕ → ℕ → Bool
+  upTo t i = hasRank rank i && leb (rank i) t
+
+  -- at most t places have one of the ranks 1 to t
+  few : (t : ℕ) → countBelow n (upTo t) ≤ t
+  few zero = omega (arith, count-zero n (upTo 0) (λ i l. none i (same? (rank i) 0)))
+    where
+      none : (i : ℕ) → Same (rank i) 0 → upTo 0 i ≡ false
+      none i (same e p) = rw e
+      none i (other e p) = rw (e, lt-leb (rank i) 0 (omega arith))
+  few (suc t) = go (few t) (someRank n rank (suc t)) refl
+    where
+      next : (i : ℕ) → (rank i ≡ suc t → ⊥) → upTo (suc t) i ≡ upTo t i
+      next i ne = rw (leb-next (rank i) t ne)
+
+      go : countBelow n (upTo t) ≤ t → (b : Bool) → someRank n rank (suc t) ≡ b → countBelow n (upTo (suc t)) ≤ suc t
+      go ih true e =
+          let (j, l, f) = any-at n (λ i. eqb (rank i) (suc t)) e in
+          let r : rank j ≡ suc t = eqb-true (rank j) (suc t) f in
+          let one : countBelow n (upTo (suc t)) ≡ suc (countBelow n (upTo t)) =
+          count-one n (upTo t) (upTo (suc t)) j l (rw (r, ne-eqb (suc t) 0 (λ z. omega arith), lt-leb (suc t) t (omega arith)))
+          (rw (r, ne-eqb (suc t) 0 (λ z. omega arith), le-leb (suc t) (suc t) (omega arith)))
+          (λ i m ne. next i (λ q. ne (ranks-differ n rank w i j m l (omega arith) (q ∙ sym r)))) in
+          omega arith
+      go ih false e =
+          omega (arith, count-same n (upTo t) (upTo (suc t)) (λ i l. next i (λ q. clash (someRank n rank (suc t)) (any-hold n (λ i. eqb (rank i) (suc t)) i l (eq-eqb (rank i) (suc t) q)) e)))
+
+  -- If of two places the more recent stays where the other does, the ranks of those that stay have no gap.
+  pub stay-ranked : (rank′ : ℕ → ℕ) (stay : ℕ → Bool) → ((i : ℕ) → i < n → rank′ i ≡ cond (stay i) (rank i) 0)
+      → ((i j : ℕ) → i < n → j < n → 0 < rank i → rank i ≤ rank j → stay j ≡ true → stay i ≡ true) → Ranked n rank′
+  stay-ranked rank′ stay is down = all-hold (countBelow n (hasRank rank′)) (λ r. someRank n rank′ (r + 1)) each
+    where
+      -- a place that has a rank still has it, and stays
+      still : (i : ℕ) → i < n → hasRank rank′ i ≡ true → (stay i ≡ true) × (hasRank rank i ≡ true)
+      still i l t = go (stay i) refl (ap (λ (q : ℕ). not (eqb q 0)) (sym (is i l)) ∙ t)
+        where
+          go : (b : Bool) → stay i ≡ b → not (eqb (cond b (rank i) 0) 0) ≡ true → (stay i ≡ true) × (hasRank rank i ≡ true)
+          go true e h = (e, h)
+          go false e h = absurd (clash false h refl)
+
+      each : (r : ℕ) → r < countBelow n (hasRank rank′) → someRank n rank′ (r + 1) ≡ true
+      each r l =
+          let fewer : countBelow n (hasRank rank′) ≤ countBelow n (hasRank rank) = count-mono n (hasRank rank′) (hasRank rank) (λ i m t. still i m t .1) in
+          let (j, m, f) = any-at n (λ i. eqb (rank i) (r + 1)) (all-at (countBelow n (hasRank rank)) (λ r. someRank n rank (r + 1)) w r (omega arith)) in
+          go j m (eqb-true (rank j) (r + 1) f) (stay j) refl
+        where
+          go : (j : ℕ) → j < n → rank j ≡ r + 1 → (b : Bool) → stay j ≡ b → someRank n rank′ (r + 1) ≡ true
+          go j m f true e = any-hold n (λ i. eqb (rank′ i) (r + 1)) j m (eq-eqb (rank′ j) (r + 1) (is j m ∙ rw (e, f)))
+          go j m f false e =
+              absurd (omega (arith, few r, count-mono n (hasRank rank′) (upTo r) (λ i h t. below i h (still i h t) (leb (rank i) r) refl)))
+            where
+              below : (i : ℕ) → i < n → (stay i ≡ true) × (hasRank rank i ≡ true) → (b : Bool) → leb (rank i) r ≡ b → hasRank rank i && b ≡ true
+              below i h (s, t) true g = rw t
+              below i h (s, t) false g = absurd (clash (stay j) (down j i m h (omega arith) (omega (arith, leb-false (rank i) r g)) s) e)

@@ -1,4 +1,4 @@
--- Slots, keys and recency (01, "Series"; 02 [5]). The number of slots is a parameter of every rule.
+-- Slots, keys and recency (01, "Series"; 02 [5], [6]). The number of slots is a parameter of every rule.
 use Prim.Native.Nat.{ℕ, suc, pred, _-_}
 use mathlib.Core.Bool.{Bool, true, false, not, cond, _&&_, _||_}
 use mathlib.Core.List.{List, [], _∷_, map}
@@ -29,11 +29,11 @@ noKey = record { sender = 0; width = 0; reference = 0; serial = record { 0 = 0 }
 
 -- slot i of a list; past its end stands a slot with no lengths and no marks, which is what an index past an array means in a contract
 abbrev pub slotAt : List Slot → ℕ → Slot
-slotAt xs i = getD xs i (record { rank = 0; key = noKey; total = 0; lengths = []; held = [] })
+slotAt xs i = getD xs i (record { rank = 0; beats = 0; key = noKey; total = 0; lengths = []; held = [] })
 
 -- a series with no part yet, and a free slot, which is all zero
 abbrev pub opened : Key → ℕ → Slot
-opened key total = record { rank = 0; key = key; total = total; lengths = replicate mostParts 0; held = replicate mostParts false }
+opened key total = record { rank = 0; beats = 0; key = key; total = total; lengths = replicate mostParts 0; held = replicate mostParts false }
 
 abbrev pub freeSlot : Slot
 freeSlot = opened noKey 0
@@ -48,13 +48,16 @@ heldAt x number = getD (x .held) (number - 1) false
 abbrev pub lengthAt : Slot → ℕ → ℕ
 lengthAt x number = getD (x .lengths) (number - 1) 0
 
--- the slot with part `number`, of n octets; the slot at another rank
+-- the slot with part `number`, of n octets; the slot at another rank, with another count of beats
 abbrev pub withPart : Slot → ℕ → ℕ → Slot
 withPart x number n =
-    record { rank = x .rank; key = x .key; total = x .total; lengths = set (x .lengths) (number - 1) n; held = set (x .held) (number - 1) true }
+    record { rank = x .rank; beats = x .beats; key = x .key; total = x .total; lengths = set (x .lengths) (number - 1) n; held = set (x .held) (number - 1) true }
 
 abbrev pub atRank : ℕ → Slot → Slot
-atRank r x = record { rank = r; key = x .key; total = x .total; lengths = x .lengths; held = x .held }
+atRank r x = record { rank = r; beats = x .beats; key = x .key; total = x .total; lengths = x .lengths; held = x .held }
+
+abbrev pub atCount : ℕ → Slot → Slot
+atCount b x = record { rank = x .rank; beats = b; key = x .key; total = x .total; lengths = x .lengths; held = x .held }
 
 -- ---- which slot
 abbrev pub sameKey : Key → Key → Bool
@@ -110,9 +113,13 @@ agedSlot r x = atRank (aged r (x .rank)) x
 abbrev pub closedSlot : ℕ → Slot → Slot
 closedSlot r x = atRank (closed r (x .rank)) x
 
+-- '"Kept" and "held already" make the series the most recent', and '"kept" and "held already" set the count to 0' (02 [6])
+abbrev pub atFront : Slot → Slot
+atFront x = atRank 1 (atCount 0 x)
+
 -- slot i comes to the front, as x
 unfoldable pub toFront : List Slot → ℕ → Slot → List Slot
-toFront xs i x = set (map (agedSlot (slotAt xs i .rank)) xs) i (atRank 1 x)
+toFront xs i x = set (map (agedSlot (slotAt xs i .rank)) xs) i (atFront x)
 
 -- slot i is freed
 unfoldable pub freed : List Slot → ℕ → List Slot

@@ -35,6 +35,7 @@ pub fn opened(key: Key, total: u8) -> Slot
 {
     Slot {
         rank: 0,
+        beats: 0,
         key: key,
         total: total,
         lengths: [0; PARTS],

@@ -220,9 +220,11 @@ pub const SLOTS: usize = 5;
 
 pub const PARTS: usize = 16;
 
-// What is known of one series. Rank 0: the slot is free, and all of it is zero. Rank 1: its series is the most recent.
+// What is known of one series. Rank 0: the slot is free, and all of it is zero. Rank 1: its series is the most recent. `beats` is the count of
+// beats since it was last touched, 0 to 254.
 pub struct Slot {
     pub rank: u8,
+    pub beats: u8,
     pub key: Key,
     pub total: u8,
     pub lengths: [u8; PARTS],
@@ -259,6 +261,18 @@ pub enum Answer {
 // The answer, and the record as it is afterwards.
 pub struct Taken {
     pub answer: Answer,
+    pub record: Record,
+}
+
+// What a beat answers: how many series were dropped.
+pub enum Beating {
+    Dropped(u8),
+    Refused(Refusal),
+}
+
+// The answer, and the record as it is afterwards.
+pub struct Beaten {
+    pub answer: Beating,
     pub record: Record,
 }
 
