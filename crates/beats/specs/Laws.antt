@@ -48,6 +48,29 @@ pub beat-at : (limit : ℕ) (xs : List Slot) (i : ℕ) → slotAt (slotsAfterBea
 beat-at limit xs i =
     ap (λ (d : Slot). getD (map (afterBeat limit) xs) i d) (sym (past-beat limit)) ∙ List·getD-map (afterBeat limit) xs i past
 
+-- a slot that is used afterwards was, and is one beat older
+pub record Stayed (limit : ℕ) (xs : List Slot) (i : ℕ) : Type 0 where
+  pub used : 0 < slotAt xs i .rank
+  pub young : suc (slotAt xs i .beats) < limit
+  pub is : slotAt (slotsAfterBeat limit xs) i ≡ atCount (suc (slotAt xs i .beats)) (slotAt xs i)
+
+pub stayed : (limit : ℕ) (xs : List Slot) (i : ℕ) → 0 < slotAt (slotsAfterBeat limit xs) i .rank → Stayed limit xs i
+stayed limit xs i u = go (beaten? limit (slotAt xs i))
+  where
+    go : Beaten limit (slotAt xs i) → Stayed limit xs i
+    go (free z r e) = absurd (omega (arith, ap (λ (x : Slot). x .rank) (beat-at limit xs i ∙ e)))
+    go (drops v l r e) = absurd (omega (arith, ap (λ (x : Slot). x .rank) (beat-at limit xs i ∙ e)))
+    go (stays v l r e) = record { used = v; young = l; is = beat-at limit xs i ∙ e }
+
+-- one that is used and younger than the limit stays
+pub stays-on : (limit : ℕ) (xs : List Slot) (i : ℕ) → 0 < slotAt xs i .rank → suc (slotAt xs i .beats) < limit → Stayed limit xs i
+stays-on limit xs i u y = go (beaten? limit (slotAt xs i))
+  where
+    go : Beaten limit (slotAt xs i) → Stayed limit xs i
+    go (free z r e) = absurd (omega arith)
+    go (drops v l r e) = absurd (omega arith)
+    go (stays v l r e) = record { used = v; young = l; is = beat-at limit xs i ∙ e }
+
 -- ---- the record
 module _ (n : ℕ) (k : Kind) (xs : List Slot) (w : Formed n k xs) (limit : ℕ) (low : 0 < limit) (high : limit ≤ 255) where
   abbrev ys : List Slot
@@ -55,20 +78,6 @@ module _ (n : ℕ) (k : Kind) (xs : List Slot) (w : Formed n k xs) (limit : ℕ)
 
   abbrev at : ℕ → Slot
   at i = slotAt xs i
-
-  -- a slot that is used afterwards was, and is one beat older
-  pub record Stayed (i : ℕ) : Type 0 where
-    pub used : 0 < slotAt xs i .rank
-    pub young : suc (slotAt xs i .beats) < limit
-    pub is : slotAt (slotsAfterBeat limit xs) i ≡ atCount (suc (slotAt xs i .beats)) (slotAt xs i)
-
-  pub stayed : (i : ℕ) → 0 < slotAt (slotsAfterBeat limit xs) i .rank → Stayed i
-  stayed i u = go (beaten? limit (at i))
-    where
-      go : Beaten limit (at i) → Stayed i
-      go (free z r e) = absurd (omega (arith, ap (λ (x : Slot). x .rank) (beat-at limit xs i ∙ e)))
-      go (drops v l r e) = absurd (omega (arith, ap (λ (x : Slot). x .rank) (beat-at limit xs i ∙ e)))
-      go (stays v l r e) = record { used = v; young = l; is = beat-at limit xs i ∙ e }
 
   slot-formed : (i : ℕ) → slotFormed k (at i) ≡ true → slotFormed k (slotAt ys i) ≡ true
   slot-formed i f = rw (beat-at limit xs i) (go (beaten? limit (at i)))
@@ -114,19 +123,19 @@ module _ (n : ℕ) (k : Kind) (xs : List Slot) (w : Formed n k xs) (limit : ℕ)
     high = w .high;
     array = beat-length limit xs ∙ w .array;
     slots = λ i l. slot-formed i (w .slots i l);
-    keys = λ i j l m u v q. w .keys i j l m (stayed i u .used) (stayed j v .used) (sym (key-was i u) ∙ q ∙ key-was j v);
+    keys = λ i j l m u v q. w .keys i j l m (stayed limit xs i u .used) (stayed limit xs j v .used) (sym (key-was i u) ∙ q ∙ key-was j v);
     ranks = stay-ranked n (λ i. at i .rank) (w .ranks) (λ i. slotAt ys i .rank) young rank-after younger;
     counts = λ i j l m u v. count-after i j l m u v;
     rest = λ i l m. (slot-formed i (w .rest i l m .0), free-after i (w .rest i l m .1));
   }
     where
       key-was : (i : ℕ) → 0 < slotAt ys i .rank → slotAt ys i .key ≡ at i .key
-      key-was i u = ap (λ (x : Slot). x .key) (stayed i u .is)
+      key-was i u = ap (λ (x : Slot). x .key) (stayed limit xs i u .is)
 
       count-after : (i j : ℕ) → i < n → j < n → 0 < slotAt ys i .rank → slotAt ys i .rank < slotAt ys j .rank → slotAt ys i .beats ≤ slotAt ys j .beats
       count-after i j l m u v =
-          let a = stayed i u in
-          let b = stayed j (omega arith) in
+          let a = stayed limit xs i u in
+          let b = stayed limit xs j (omega arith) in
           let c : at i .beats ≤ at j .beats = w .counts i j l m (a .used) (omega (arith, ap (λ (x : Slot). x .rank) (a .is), ap (λ (x : Slot). x .rank) (b .is))) in
           omega (arith, c, ap (λ (x : Slot). x .beats) (a .is), ap (λ (x : Slot). x .beats) (b .is))
 

@@ -9,14 +9,14 @@ use Rattle.types.specs.declared.Key.{Key}
 use Rattle.arrival.specs.Arrivals.{part}
 use Rattle.series.specs.Calls.{read}
 use Rattle.demands.specs.Lists.{complete}
-use Rattle.demands.specs.Runs.{Call, Each}
-use Rattle.demands.specs.Wake.{History, follow, EachWith}
+use Rattle.demands.specs.Runs.{Call, Event, takes, beats, Each}
+use Rattle.demands.specs.Wake.{History, historyBy, follow, EachWith}
 
-abbrev pub All : (Call → Type 0) → List Call → Type 0
+abbrev pub All : (Event → Type 0) → List Event → Type 0
 All Claim [] = Unit {0}
 All Claim (c ∷ cs) = Claim c × All Claim cs
 
-pub each : (Claim : Call → Type 0) (calls : List Call) → All Claim calls → Each Claim calls
+pub each : (Claim : Event → Type 0) (calls : List Event) → All Claim calls → Each Claim calls
 each Claim [] a [] d v e = absurd (nil≢cons e)
 each Claim [] a (c ∷ u) d v e = absurd (nil≢cons e)
 each Claim (c ∷ cs) a [] d v e = subst Claim (head-eq-of-cons-eq e) (a .0)
@@ -27,13 +27,18 @@ module _ (n : ℕ) (k : Kind) (K : Key) (t : ℕ) (Claim : History → Call → 
   Here w c =
       (total number start : ℕ) → read k (c .input) ≡ reading.gives (part K total number start) → complete t (w .arrived) ≡ false → Claim w c total number start
 
-  abbrev pub Along : History → List Call → Type 0
-  Along w [] = Unit {0}
-  Along w (c ∷ cs) = Here w c × Along (follow n k K w (c ∷ [])) cs
+  -- of an event: a beat bears no key
+  abbrev pub HereBy : History → Event → Type 0
+  HereBy w (takes c) = Here w c
+  HereBy w (beats limit) = Unit {0}
 
-  pub each-with : (calls : List Call) (w : History) → Along w calls → EachWith n k K t Claim w calls
+  abbrev pub Along : History → List Event → Type 0
+  Along w [] = Unit {0}
+  Along w (c ∷ cs) = HereBy w c × Along (historyBy n k K w c) cs
+
+  pub each-with : (calls : List Event) (w : History) → Along w calls → EachWith n k K t Claim w calls
   each-with [] w a [] d v e = absurd (nil≢cons e)
   each-with [] w a (c ∷ u) d v e = absurd (nil≢cons e)
-  each-with (c ∷ cs) w a [] d v e = subst (Here w) (head-eq-of-cons-eq e) (a .0)
+  each-with (c ∷ cs) w a [] d v e = subst (HereBy w) (head-eq-of-cons-eq e) (a .0)
   each-with (c ∷ cs) w a (x ∷ u) d v e =
-      subst (λ (y : Call). Here (follow n k K w (y ∷ u)) d) (head-eq-of-cons-eq e) (each-with cs (follow n k K w (c ∷ [])) (a .1) u d v (tail-eq-of-cons-eq e))
+      subst (λ (y : Event). Here (follow n k K w (y ∷ u)) d) (head-eq-of-cons-eq e) (each-with cs (historyBy n k K w c) (a .1) u d v (tail-eq-of-cons-eq e))

@@ -2,7 +2,7 @@
 -- displaced, all n slots are used, and the key that comes is none of theirs: with it there are n + 1 unfinished keys.
 use Prim.Native.Nat.{ℕ, suc, _≤_, _<_}
 use mathlib.Core.Path.{_≡_, refl, sym, ap, _∙_, subst}
-use mathlib.Core.Bool.{Bool, true, false, not, cond}
+use mathlib.Core.Bool.{Bool, true, false, not, cond, _&&_}
 use mathlib.Core.List.{List, [], _∷_, _++_, append-assoc}
 use mathlib.Core.Logic.{⊎-elim}
 use mathlib.Core.Option.{Option, none, some}
@@ -10,6 +10,7 @@ use native.Mathlib.Nat.{eq-or-lt-of-le}
 use native.Mathlib.Omega.{arith}
 use lib.ListN.{length, drop}
 use lib.Dec.{eqb}
+use borrow.Author.Tests.{ne-eqb}
 use Rattle.octets.specs.Tests.{clash, Same, same, other, same?}
 use Rattle.types.specs.declared.Kind.{Kind}
 use Rattle.types.specs.Refusals as reading
@@ -18,21 +19,24 @@ use Rattle.arrival.specs.Arrivals.{Brought, single, part}
 use Rattle.arrival.specs.Keys.{ofPages}
 use Rattle.joined.specs.Fronts.{packetIn}
 use Rattle.types.specs.declared.Slot.{Slot}
-use Rattle.slots.specs.Slots.{slotAt, opened, atRank, withPart, withSlots, aged, closed, toFront, freed}
+use Rattle.slots.specs.Slots.{slotAt, bears, opened, atRank, withPart, withSlots, aged, closed, toFront, freed}
 use Rattle.slots.specs.RankLaws.{aged-taken, closed-taken}
-use Rattle.slots.specs.FrontLaws.{front-here, front-there, freed-here, freed-there}
+use Rattle.slots.specs.BelowLaws.{any-hold}
+use Rattle.beats.specs.Beats.{AfterBeat, slotsAfterBeat, beat}
+use Rattle.beats.specs.Laws.{stayed}
+use Rattle.slots.specs.FrontLaws.{key-same, front-here, front-there, freed-here, freed-there}
 use Rattle.formed.specs.Laws.{Formed, array-holds}
 use Rattle.series.specs.Cells.{joinedOctets}
 use Rattle.series.specs.Taking.{State, After, Answer, state, kept, heldAlready, packet, refusedBy, Step, acted, handOut, step, takePart, taken, unfit, refuse}
 use Rattle.series.specs.CaseLaws.{Bears, Lacks, Case, other-total, other-octets, held-so, last, more, takes-free, displaces, case-of}
 use Rattle.series.specs.Calls.{Input, octetsOf, read, takeInput}
 use Rattle.demands.specs.Lists.{elemKey, addKey, dropKey}
-use Rattle.demands.specs.Runs.{Slots, Call, Store, fresh, outcome, left, run, Each}
+use Rattle.demands.specs.Runs.{Slots, Call, Event, takes, beats, Store, fresh, outcome, leftBy, run, Each}
 use Rattle.demands.specs.Always.{BringsOctets}
-use Rattle.demands.specs.Crowding.{unfinishedAfter, unfinishedWith, unfinished, NeverDisplaced}
-use Rattle.demands.proofs.Lists.{elem-key-add, elem-key-self, elem-dropped, pigeon, keys-apart}
+use Rattle.demands.specs.Crowding.{unfinishedAfter, unfinishedWith, holdsKey, notDropped, unfinishedBy, unfinished, NeverDisplaced}
+use Rattle.demands.proofs.Lists.{Alike, alike, unlike, alike?, elem-key-add, elem-key-self, elem-dropped, pigeon, keys-apart}
 use Rattle.demands.proofs.Track.{key-there, used-before}
-use Rattle.demands.proofs.Calls.{isPage, taking-any, fresh-free, Formed′, fresh-all, formed-call}
+use Rattle.demands.proofs.Calls.{isPage, taking-any, fresh-free, Beat, no-beat, is-beat, beat?, Formed′, fresh-all, formed-by}
 use Rattle.demands.proofs.Wake.{admits}
 
 module _ (n : ℕ) (pos : Slots n) (k : Kind) where
@@ -155,16 +159,53 @@ module _ (n : ℕ) (pos : Slots n) (k : Kind) where
   one-call st (kind, number, w) l held c =
       any-call (state (st .rec) (st .cells) (c .output)) (subst (λ (x : Kind). Formed n x (st .rec .slots)) (sym kind) w) kind l held (c .input)
 
-  -- ---- any list of calls
-  never : (u : List Call) (st : Store) (l : List Key) → Formed′ n pos k (admits k) st → Held (st .rec .slots) l → (c : Call) (v : List Call)
-      → Each BringsOctets (u ++ c ∷ v) → length (unfinished n k st l (u ++ c ∷ [])) ≤ n → (slot : ℕ) → outcome n (run n st u) c .answer ≡ kept slot true → ⊥
+  -- ---- one beat: the key of a slot that is used afterwards is held then, and so it is not dropped
+  still-there : (xs ys : List Slot) (l : List Key) (Y : Key) → holdsKey n ys Y ≡ true → elemKey Y l ≡ true → elemKey Y (notDropped n xs ys l) ≡ true
+  still-there xs ys [] Y h e = e
+  still-there xs ys (X ∷ l) Y h e = go (still-there xs ys l Y h) (alike? Y X) (holdsKey n xs X) (holdsKey n ys X) refl
+    where
+      go : (elemKey Y l ≡ true → elemKey Y (notDropped n xs ys l) ≡ true) → Alike Y X → (b a : Bool) → holdsKey n ys X ≡ a
+          → elemKey Y (cond (b && not a) (notDropped n xs ys l) (X ∷ notDropped n xs ys l)) ≡ true
+      go ih (alike f x) b true q = go′ b
+        where
+          go′ : (b : Bool) → elemKey Y (cond (b && false) (notDropped n xs ys l) (X ∷ notDropped n xs ys l)) ≡ true
+          go′ true = rw f
+          go′ false = rw f
+      go ih (alike f x) b false q = absurd (clash (holdsKey n ys Y) h (ap (holdsKey n ys) x ∙ q))
+      go ih (unlike f ne) b a q = go′ (b && not a)
+        where
+          go′ : (d : Bool) → elemKey Y (cond d (notDropped n xs ys l) (X ∷ notDropped n xs ys l)) ≡ true
+          go′ true = ih (simp f at e)
+          go′ false = rw f (ih (simp f at e))
+
+  held-beat : (st : Store) (limit : ℕ) (l : List Key) → Held (st .rec .slots) l → Held (leftBy n st (beats limit) .rec .slots) (notDropped n (st .rec .slots) (leftBy n st (beats limit) .rec .slots) l)
+  held-beat st limit l held = go (beat n (st .rec) limit) (beat? n pos k (st .rec) limit)
+    where
+      bears-it : (ys : List Slot) (j : ℕ) → j < n → 0 < slotAt ys j .rank → holdsKey n ys (slotAt ys j .key) ≡ true
+      bears-it ys j a u =
+          any-hold n (λ i. bears (slotAt ys j .key) (slotAt ys i)) j a (rw (ne-eqb (slotAt ys j .rank) 0 (λ z. omega arith), key-same (slotAt ys j .key) (slotAt ys j .key) refl))
+
+      go : (a : AfterBeat) → Beat n pos k (st .rec) limit a → Held (a .rec .slots) (notDropped n (st .rec .slots) (a .rec .slots) l)
+      go a (no-beat m) j b u = still-there (st .rec .slots) (st .rec .slots) l (slotAt (st .rec .slots) j .key) (bears-it (st .rec .slots) j b u) (held j b u)
+      go a (is-beat low) j b u =
+          let ys = slotsAfterBeat limit (st .rec .slots) in
+          let s = stayed limit (st .rec .slots) j u in
+          still-there (st .rec .slots) ys l (slotAt ys j .key) (bears-it ys j b u) (rw (ap (λ (x : Slot). x .key) (s .is)) (held j b (s .used)))
+
+  one-event : (st : Store) → Formed′ n pos k (admits k) st → (l : List Key) → Held (st .rec .slots) l → (e : Event) → Held (leftBy n st e .rec .slots) (unfinishedBy n k st l e)
+  one-event st w l held (takes c) = one-call st w l held c .0
+  one-event st w l held (beats limit) = held-beat st limit l held
+
+  -- ---- any list of events
+  never : (u : List Event) (st : Store) (l : List Key) → Formed′ n pos k (admits k) st → Held (st .rec .slots) l → (c : Call) (v : List Event)
+      → Each BringsOctets (u ++ takes c ∷ v) → length (unfinished n k st l (u ++ takes c ∷ [])) ≤ n → (slot : ℕ) → outcome n (run n st u) c .answer ≡ kept slot true → ⊥
   never [] st l w held c v bytes few = λ slot e. let f = one-call st w l held c .1 slot e in omega arith
   never (d ∷ u) st l w held c v bytes few =
-      never u (left (outcome n st d)) (unfinishedWith (read k (d .input)) (outcome n st d .answer) l)
-      (formed-call n pos k (admits k) st w d (bytes [] d (u ++ c ∷ v) refl)) (one-call st w l held d .0) c v
-      (λ t x y e. bytes (d ∷ t) x y (ap (λ (m : List Call). d ∷ m) e)) few
+      never u (leftBy n st d) (unfinishedBy n k st l d)
+      (formed-by n pos k (admits k) st w d (bytes [] d (u ++ takes c ∷ v) refl)) (one-event st w l held d) c v
+      (λ t x y e. bytes (d ∷ t) x y (ap (λ (m : List Event). d ∷ m) e)) few
 
   pub never-displaced : NeverDisplaced n k
   never-displaced cells calls bytes few u c v e =
       never u (fresh n k cells) [] (fresh-all n pos k (admits k) cells) (λ j a u. absurd (fresh-free n k pos j a u)) c v
-      (subst (Each BringsOctets) e bytes) (few (u ++ c ∷ []) v (e ∙ sym (append-assoc u (c ∷ []) v)))
+      (subst (Each BringsOctets) e bytes) (few (u ++ takes c ∷ []) v (e ∙ sym (append-assoc u (takes c ∷ []) v)))

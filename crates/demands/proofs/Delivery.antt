@@ -31,8 +31,8 @@ use Rattle.series.specs.Calls.{Input, message, page, octetsOf, read}
 use Rattle.split.specs.Splitting as split
 use Rattle.split.specs.Laws.{some-part, page-ends, message-given, page-given}
 use Rattle.demands.specs.Lists.{elem, add, complete}
-use Rattle.demands.specs.Runs.{Slots, Call, Store, fresh, outcome, run, Proper, Each}
-use Rattle.demands.specs.Wake.{Cut, History, begin, historyAfter, follow, EachWith}
+use Rattle.demands.specs.Runs.{Slots, Call, Event, takes, Store, fresh, outcome, run, Proper, Each}
+use Rattle.demands.specs.Wake.{Cut, History, begin, historyAfter, historyBy, follow, EachWith}
 use Rattle.demands.specs.SplitTaken.{listed, keyUnder, Sent, Sending}
 use Rattle.demands.specs.Delivery.{Brings, nothing-more, next, InParts, Delivered, MessagesDelivered, PagesDelivered, MessagesWritten, PagesWritten}
 use Rattle.demands.proofs.Lists.{elem-add, elem-still}
@@ -53,7 +53,7 @@ first-or-later {A} j m order e f g = go (same? j m)
 module _ (n : ℕ) (pos : Slots n) (k : Kind) (K : Key) (P : List ℕ) (t : ℕ) (octets : ℕ → List ℕ) (written : ℕ → Input)
     (splits : Splits k K P t octets written) (one : 1 ≤ t) (formed : wellFormed k P ≡ true)
     (bytes : (m : ℕ) → 1 ≤ m → m ≤ t → Octets (octetsOf (written m))) where
-  all-proper : {order : List ℕ} {calls : List Call} → Brings t written order calls → All Proper calls
+  all-proper : {order : List ℕ} {calls : List Event} → Brings t written order calls → All Proper calls
   all-proper nothing-more = tt
   all-proper (next m low high c is size rest) =
       (record { output = size; octets = subst (λ (i : Input). Octets (octetsOf i)) (sym is) (bytes m low high) }, all-proper rest)
@@ -62,44 +62,44 @@ module _ (n : ℕ) (pos : Slots n) (k : Kind) (K : Key) (P : List ℕ) (t : ℕ)
   module _ (several : t ≡ 1 → ⊥) where
     -- after a call that brings part m: m has come, and no other key since
     seen-part : (w : History) (m : ℕ) → 1 ≤ m → m ≤ t → (c : Call) → c .input ≡ written m
-        → (follow n k K w (c ∷ []) .arrived ≡ add m (w .arrived)) × (follow n k K w (c ∷ []) .othersSince ≡ [])
+        → (historyBy n k K w (takes c) .arrived ≡ add m (w .arrived)) × (historyBy n k K w (takes c) .othersSince ≡ []) × (historyBy n k K w (takes c) .beatsSince ≡ [])
     seen-part w m low high c is =
-        subst (λ (r : reading.Outcome Brought). (historyAfter n k K w a r .arrived ≡ add m (w .arrived)) × (historyAfter n k K w a r .othersSince ≡ [])) (sym (ap (read k) is ∙ splits .reads several m low high))
-        (rw (key-same K K refl), rw (key-same K K refl))
+        subst (λ (r : reading.Outcome Brought). (historyAfter n k K w a r .arrived ≡ add m (w .arrived)) × (historyAfter n k K w a r .othersSince ≡ []) × (historyAfter n k K w a r .beatsSince ≡ [])) (sym (ap (read k) is ∙ splits .reads several m low high))
+        (rw (key-same K K refl), rw (key-same K K refl), rw (key-same K K refl))
       where
         a : After
         a = outcome n (w .store) c
 
-    all-sent : {order : List ℕ} {calls : List Call} → Brings t written order calls → (w : History) → w .othersSince ≡ [] → Along n k K t (Sent n t written) w calls
-    all-sent nothing-more w z = tt
-    all-sent (next m low high c is size rest) w z = (
-      (λ total number start e o. record { which = m; low = low; high = high; is = is; fewOthers = λ ne. rw z (pos .some) }),
-      all-sent rest (follow n k K w (c ∷ [])) (seen-part w m low high c is .1),
+    all-sent : {order : List ℕ} {calls : List Event} → Brings t written order calls → (w : History) → w .othersSince ≡ [] → w .beatsSince ≡ [] → Along n k K t (Sent n t written) w calls
+    all-sent nothing-more w z y = tt
+    all-sent (next m low high c is size rest) w z y = (
+      (λ total number start e o. record { which = m; low = low; high = high; is = is; fewOthers = λ ne. rw z (pos .some); inTime = λ ne. rw y tt }),
+      all-sent rest (historyBy n k K w (takes c)) (seen-part w m low high c is .1) (seen-part w m low high c is .2),
     )
 
     -- what has come stays, and each number of the order has come in the end
-    got-stays : {order : List ℕ} {calls : List Call} → Brings t written order calls → (w : History) (j : ℕ) → elem j (w .arrived) ≡ true → elem j (follow n k K w calls .arrived) ≡ true
+    got-stays : {order : List ℕ} {calls : List Event} → Brings t written order calls → (w : History) (j : ℕ) → elem j (w .arrived) ≡ true → elem j (follow n k K w calls .arrived) ≡ true
     got-stays nothing-more w j e = e
     got-stays (next m low high c is size rest) w j e =
-        got-stays rest (follow n k K w (c ∷ [])) j (ap (elem j) (seen-part w m low high c is .0) ∙ elem-still m j (w .arrived) e)
+        got-stays rest (historyBy n k K w (takes c)) j (ap (elem j) (seen-part w m low high c is .0) ∙ elem-still m j (w .arrived) e)
 
-    got-all : {order : List ℕ} {calls : List Call} → Brings t written order calls → (w : History) (j : ℕ) → elem j order ≡ true → elem j (follow n k K w calls .arrived) ≡ true
+    got-all : {order : List ℕ} {calls : List Event} → Brings t written order calls → (w : History) (j : ℕ) → elem j order ≡ true → elem j (follow n k K w calls .arrived) ≡ true
     got-all nothing-more w j e = absurd (clash false e refl)
     got-all (next {order = order} m low high c is size rest) w j e =
         first-or-later j m order e
-        (λ p. got-stays rest (follow n k K w (c ∷ [])) j (ap (elem j) (seen-part w m low high c is .0) ∙ elem-add m j (w .arrived) ∙ rw (eq-eqb j m p)))
-        (λ f. got-all rest (follow n k K w (c ∷ [])) j f)
+        (λ p. got-stays rest (historyBy n k K w (takes c)) j (ap (elem j) (seen-part w m low high c is .0) ∙ elem-add m j (w .arrived) ∙ rw (eq-eqb j m p)))
+        (λ f. got-all rest (historyBy n k K w (takes c)) j f)
 
-    module _ (cells : List ℕ) (earlier : List Call) (size : length cells ≡ cellsSize n) (before : Each Proper earlier)
+    module _ (cells : List ℕ) (earlier : List Event) (size : length cells ≡ cellsSize n) (before : Each Proper earlier)
         (lacks : Lacks n (run n (fresh n k cells) earlier .rec .slots) K) where
       abbrev w : History
       w = begin n k cells earlier
 
-      in-parts : (order : List ℕ) (calls : List Call) → Brings t written order calls → complete t order ≡ true → InParts n k K P t octets written w calls
+      in-parts : (order : List ℕ) (calls : List Event) → Brings t written order calls → complete t order ≡ true → InParts n k K P t octets written w calls
       in-parts order calls brings all =
           let s : Sending n k K P cells earlier calls =
           record { formed = formed; size = size; before = before; proper = each Proper calls (all-proper brings); lacks = lacks } in
-          let sent : EachWith n k K t (Sent n t written) w calls = each-with n k K t (Sent n t written) calls w (all-sent brings w refl) in
+          let sent : EachWith n k K t (Sent n t written) w calls = each-with n k K t (Sent n t written) calls w (all-sent brings w refl refl) in
           record {
             answered = all-served n pos k K P t octets written splits (below one) cells earlier calls s sent;
             comes = it-comes n pos k K P t octets written splits (below one) cells earlier calls s sent
@@ -110,7 +110,7 @@ module _ (n : ℕ) (pos : Slots n) (k : Kind) (K : Key) (P : List ℕ) (t : ℕ)
           below l = ⊎-elim (λ (q : 1 ≡ t). absurd (several (sym q))) (λ (q : 1 < t). q) (eq-or-lt-of-le l)
 
   -- ---- one
-  module _ (cells : List ℕ) (earlier : List Call) (size : length cells ≡ cellsSize n) (before : Each Proper earlier) where
+  module _ (cells : List ℕ) (earlier : List Event) (size : length cells ≡ cellsSize n) (before : Each Proper earlier) where
     abbrev st : Store
     st = run n (fresh n k cells) earlier
 

@@ -67,8 +67,10 @@ demand-2 = record {
 
 pub demand-3 : (n : ℕ) → Slots n → Demand3 n
 demand-3 n good = record {
-  wake-window = wake.wake-window n good;
-  packet-comes = wake.packet-comes n good;
+  wake-window = wake.wake-window-least n good;
+  packet-comes = wake.packet-comes-least n good;
+  wake-window-sharp = wake.wake-window n good;
+  packet-comes-sharp = wake.packet-comes n good;
   always-formed = λ k. calls.always-formed n good k (wake.admits k);
   no-key-twice = λ k. calls.no-key-twice n good k (wake.admits k);
   never-displaced = crowding.never-displaced n good;

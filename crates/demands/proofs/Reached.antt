@@ -35,9 +35,9 @@ use Rattle.series.specs.CaseLaws.{Lacks, Case, other-total, other-octets, held-
 use Rattle.series.specs.Calls.{Input, octetsOf, read}
 use Rattle.demands.specs.Examples.{M}
 use Rattle.demands.specs.Lists.{elemKey, addKey}
-use Rattle.demands.specs.Runs.{Slots, Call, Store, fresh, outcome, left, run, Proper}
+use Rattle.demands.specs.Runs.{Slots, Call, Event, takes, beats, Store, fresh, outcome, left, leftBy, run, ProperCall, Proper}
 use Rattle.demands.specs.Wake as window
-use Rattle.demands.specs.Wake.{in-messages, History, historyAfter, counts, follow, Fair, begin}
+use Rattle.demands.specs.Wake.{in-messages, History, InTime, historyAfter, historyBy, counts, follow, Fair, begin}
 use Rattle.demands.specs.Reached as reached
 use Rattle.demands.specs.Reached.{key, halves, callFrom, first, second, strangers, crowd, cells, Met, Missed, longest, longestPaged, asMessage, asPage, inOrder, Longest}
 use Rattle.demands.specs.SplitTaken.{listed, keyUnder}
@@ -60,9 +60,9 @@ same-part : {K₁ K₂ : Key} {t₁ t₂ m₁ m₂ s₁ s₂ : ℕ} → reading.
 same-part e = (cc, cc, cc, cc)
 
 -- two runs, one after the other
-run-more : (n : ℕ) (u v : List Call) (st : Store) → run n st (u ++ v) ≡ run n (run n st u) v
+run-more : (n : ℕ) (u v : List Event) (st : Store) → run n st (u ++ v) ≡ run n (run n st u) v
 run-more n [] v st = refl
-run-more n (c ∷ u) v st = run-more n u v (left (outcome n st c))
+run-more n (c ∷ u) v st = run-more n u v (leftBy n st c)
 
 -- a key that is put in is one more at most
 add-most : (X : Key) (l : List Key) → length (addKey X l) ≤ suc (length l)
@@ -92,7 +92,7 @@ module _ (n : ℕ) (good : Slots n) (b : ℕ) where
     filled : (j : ℕ) → j < n → j < m → 0 < ranks st j
 
   -- a call with a key that is not held: where its series goes
-  module _ (st : Store) (w : Kept n Command st) (c : Call) (p : Proper c) (X : Key) (total number start : ℕ)
+  module _ (st : Store) (w : Kept n Command st) (c : Call) (p : ProperCall c) (X : Key) (total number start : ℕ)
       (reads : read Command (c .input) ≡ reading.gives (part X total number start)) (lacks : Lacks n (st .rec .slots) X) where
     abbrev xs : List Slot
     xs = st .rec .slots
@@ -212,23 +212,23 @@ module _ (n : ℕ) (good : Slots n) (b : ℕ) where
           filled = λ j l h. more-filled m f follows i y inside is g j l h (same? j i);
         }
 
-  one-more : (m : ℕ) (st : Store) → Crowd m st → (c : Call) → Proper c → (X : Key) (total number start : ℕ)
+  one-more : (m : ℕ) (st : Store) → Crowd m st → (c : Call) → ProperCall c → (X : Key) (total number start : ℕ)
       → read Command (c .input) ≡ reading.gives (part X total number start) → X .sender ≡ suc m → Crowd (suc m) (left (outcome n st c))
   one-more m st f c p X total number start reads follows =
       key-more st (f .kept) c p X total number start reads (λ j l u e. omega (arith, follows, f .low j l u, ap (λ (z : Key). z .sender) e)) m f follows
 
-  proper : (sender : ℕ) (ud : List ℕ) → allBelow (length ud) (λ i. ltb (getD ud i 0) 256) ≡ true → Proper (callFrom b sender ud)
+  proper : (sender : ℕ) (ud : List ℕ) → allBelow (length ud) (λ i. ltb (getD ud i 0) 256) ≡ true → ProperCall (callFrom b sender ud)
   proper sender ud e = record { output = length-replicate mostOctets b; octets = octets-of ud e }
 
-  proper-other : (sender : ℕ) → Proper (reached.stranger b sender)
+  proper-other : (sender : ℕ) → ProperCall (reached.stranger b sender)
   unfolding allBelow
   proper-other sender = proper sender _ refl
 
-  proper-first : Proper (first b)
+  proper-first : ProperCall (first b)
   unfolding allBelow
   proper-first = proper 1 _ refl
 
-  proper-second : Proper (second b)
+  proper-second : ProperCall (second b)
   unfolding allBelow
   proper-second = proper 1 _ refl
 
@@ -290,37 +290,38 @@ module _ (n : ℕ) (good : Slots n) (b : ℕ) where
 
   -- ---- n − 1 other keys
   abbrev seen : History → Call → History
-  seen q c = follow n Command key q (c ∷ [])
+  seen q c = historyBy n Command key q (takes c)
 
   -- a call with another key leaves what has arrived, and is counted once at most
   record Waits (m : ℕ) (q : History) : Type 0 where
     arrived : q .arrived ≡ 1 ∷ []
     few : length (q .othersSince) ≤ m
+    no-beat : q .beatsSince ≡ []
 
   waits-more : (m sender : ℕ) (q : History) → 2 ≤ sender → Waits m q → Waits (suc m) (seen q (reached.stranger b sender))
-  waits-more m sender q l w = rw (reads-other sender, ne-eqb sender 1 (λ e. omega arith)) (record { arrived = w .arrived; few = go (counts (outcome n (q .store) (reached.stranger b sender))) })
+  waits-more m sender q l w = rw (reads-other sender, ne-eqb sender 1 (λ e. omega arith)) (record { arrived = w .arrived; few = go (counts (outcome n (q .store) (reached.stranger b sender))); no-beat = w .no-beat })
     where
       go : (t : Bool) → length (cond t (addKey (keyOf sender) (q .othersSince)) (q .othersSince)) ≤ suc m
       go true = let more-keys : length (addKey (keyOf sender) (q .othersSince)) ≤ suc (length (q .othersSince)) = add-most (keyOf sender) (q .othersSince) in omega (arith, w .few)
       go false = omega (arith, w .few)
 
   abbrev Fair′ : History → Call → Type 0
-  Fair′ = Here n Command key 2 (Fair n Command key M halves)
+  Fair′ = Here n Command key 2 (Fair n Command key M halves InTime)
 
   fair-first : (q : History) → q .arrived ≡ [] → Fair′ q (first b)
   fair-first q z total number start e o =
-      let (k, t, m, s) = same-part (sym reads-first ∙ e) in record { counted = sym t; brought = rw (← m, ← s); fewOthers = λ ne. absurd (ne z) }
+      let (k, t, m, s) = same-part (sym reads-first ∙ e) in record { counted = sym t; brought = rw (← m, ← s); fewOthers = λ ne. absurd (ne z); inTime = λ ne. absurd (ne z) }
 
   fair-other : (q : History) (sender : ℕ) → 2 ≤ sender → Fair′ q (reached.stranger b sender)
   fair-other q sender l total number start e o = absurd (omega (arith, ap (λ (k : Key). k .sender) (same-part (sym (reads-other sender) ∙ e) .0)))
 
-  fair-second : (q : History) → length (q .othersSince) < n → Fair′ q (second b)
-  fair-second q few total number start e o =
-      let (k, t, m, s) = same-part (sym reads-second ∙ e) in record { counted = sym t; brought = rw (← m, ← s); fewOthers = λ ne. few }
+  fair-second : (q : History) → length (q .othersSince) < n → InTime (q .beatsSince) → Fair′ q (second b)
+  fair-second q few soon total number start e o =
+      let (k, t, m, s) = same-part (sym reads-second ∙ e) in record { counted = sym t; brought = rw (← m, ← s); fewOthers = λ ne. few; inTime = λ ne. soon }
 
   -- the others and the second part, where k others were before
-  fair-rest : (m sender k : ℕ) (q : History) → 2 ≤ sender → Waits k q → k + m < n → Along n Command key 2 (Fair n Command key M halves) q (strangers b sender m ++ second b ∷ [])
-  fair-rest zero sender k q l w few = (fair-second q (omega (arith, w .few)), tt)
+  fair-rest : (m sender k : ℕ) (q : History) → 2 ≤ sender → Waits k q → k + m < n → Along n Command key 2 (Fair n Command key M halves InTime) q (strangers b sender m ++ takes (second b) ∷ [])
+  fair-rest zero sender k q l w few = (fair-second q (omega (arith, w .few)) (rw (w .no-beat) tt), tt)
   fair-rest (suc m) sender k q l w few = (fair-other q sender l, fair-rest m (suc sender) (suc k) (seen q (reached.stranger b sender)) (omega arith) (waits-more k sender q l w) (omega arith))
 
   waits-all : (m sender k : ℕ) (q : History) → 2 ≤ sender → Waits k q → Waits (m + k) (follow n Command key q (strangers b sender m))
@@ -334,9 +335,9 @@ module _ (n : ℕ) (good : Slots n) (b : ℕ) where
   w₀ = begin n Command (cells n b) []
 
   waits-first : Waits 0 (seen w₀ (first b))
-  waits-first = rw reads-first (record { arrived = refl; few = omega arith })
+  waits-first = rw reads-first (record { arrived = refl; few = omega arith; no-beat = refl })
 
-  proper-rest : (m sender : ℕ) → All Proper (strangers b sender m ++ second b ∷ [])
+  proper-rest : (m sender : ℕ) → All Proper (strangers b sender m ++ takes (second b) ∷ [])
   proper-rest zero sender = (proper-second, tt)
   proper-rest (suc m) sender = (proper-other sender, proper-rest m (suc sender))
 
@@ -353,20 +354,21 @@ module _ (n : ℕ) (good : Slots n) (b : ℕ) where
       by-reading (reading.gives (single start)) = refl
       by-reading (reading.gives (part X total number start)) = by-key (sameKey X key) _ _ refl refl
 
-  store-run : (calls : List Call) (q : History) → follow n Command key q calls .store ≡ run n (q .store) calls
+  store-run : (calls : List Event) (q : History) → follow n Command key q calls .store ≡ run n (q .store) calls
   store-run [] q = refl
-  store-run (c ∷ cs) q = store-run cs (seen q c) ∙ ap (λ (st : Store). run n st cs) (store-seen q c)
+  store-run (takes c ∷ cs) q = store-run cs (seen q c) ∙ ap (λ (st : Store). run n st cs) (store-seen q c)
+  store-run (beats limit ∷ cs) q = store-run cs (historyBy n Command key q (beats limit))
 
-  starts : window.Start n Command key M halves (cells n b) [] (crowd b (n - 1) ++ second b ∷ [])
+  starts : window.Start n Command key M halves InTime (cells n b) [] (crowd b (n - 1) ++ takes (second b) ∷ [])
   starts = record {
     formed = refl;
     cut = in-messages refl refl;
     two = omega arith;
     size = length-replicate (cellsSize n) b;
     before = each Proper [] tt;
-    proper = each Proper (crowd b (n - 1) ++ second b ∷ []) (proper-first, proper-rest (n - 1) 2);
+    proper = each Proper (crowd b (n - 1) ++ takes (second b) ∷ []) (proper-first, proper-rest (n - 1) 2);
     lacks = λ j l u e. fresh-free n Command good j l u;
-    fair = each-with n Command key 2 (Fair n Command key M halves) (crowd b (n - 1) ++ second b ∷ []) w₀
+    fair = each-with n Command key 2 (Fair n Command key M halves InTime) (crowd b (n - 1) ++ takes (second b) ∷ []) w₀
         (fair-first w₀ refl, fair-rest (n - 1) 2 0 (seen w₀ (first b)) (omega arith) waits-first (omega (arith, good .some)));
   }
 
@@ -381,7 +383,7 @@ module _ (n : ℕ) (good : Slots n) (b : ℕ) where
       waits = waits-all (n - 1) 2 0 (seen w₀ (first b)) (omega arith) waits-first
 
       served : window.Served n Command key M halves (follow n Command key w₀ (crowd b (n - 1))) (second b) 2 2 6
-      served = wake-window n good Command key M halves (cells n b) [] (crowd b (n - 1) ++ second b ∷ []) starts (crowd b (n - 1)) (second b) [] refl 2 2 6 reads-second (rw (waits .arrived))
+      served = wake-window n good Command key M halves (cells n b) [] (crowd b (n - 1) ++ takes (second b) ∷ []) starts (crowd b (n - 1)) (second b) [] refl 2 2 6 reads-second (rw (waits .arrived))
 
       handed : window.Served n Command key M halves (follow n Command key w₀ (crowd b (n - 1))) (second b) 2 2 6
           → outcome n (follow n Command key w₀ (crowd b (n - 1)) .store) (second b) .answer ≡ packet 16
@@ -390,7 +392,7 @@ module _ (n : ℕ) (good : Slots n) (b : ℕ) where
       handed (window.wakes r new all lacks e) = ap (λ (x : After). x .answer) e
 
 -- ---- the longest packets
-brings-both : {t : ℕ} {written : ℕ → Input} {o p : List ℕ} {u v : List Call} → Brings t written o u → Brings t written p v → Brings t written (o ++ p) (u ++ v)
+brings-both : {t : ℕ} {written : ℕ → Input} {o p : List ℕ} {u v : List Event} → Brings t written o u → Brings t written p v → Brings t written (o ++ p) (u ++ v)
 brings-both nothing-more behind = behind
 brings-both (next m low high c is size rest) behind = next m low high c is size (brings-both rest behind)
 

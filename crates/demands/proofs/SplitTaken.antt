@@ -24,8 +24,8 @@ use Rattle.split.specs.Splitting as split
 use Rattle.split.specs.Laws.{single-size, part-whole, parts-join, pages-join, page-begins, page-ends}
 use Rattle.split.specs.ReadBack.{ownFrom, read-single, single-octets, read-part, own-octets, read-single-page, read-page, content-octets}
 use Rattle.demands.specs.Lists.{concat, complete}
-use Rattle.demands.specs.Runs.{Slots, Call}
-use Rattle.demands.specs.Wake.{Cut, in-messages, in-pages, History, begin, follow, EachWith, Fair, Served, Start, Comes}
+use Rattle.demands.specs.Runs.{Slots, Call, Event}
+use Rattle.demands.specs.Wake.{InTime, Cut, in-messages, in-pages, History, begin, follow, EachWith, Fair, Served, Start, Comes}
 use Rattle.demands.specs.SplitTaken.{listed, Sent, Sending, Arrives, keyUnder, MessagesArrive, PagesArrive}
 use Rattle.demands.proofs.Lists.{concat-last}
 use Rattle.demands.proofs.Calls.{isPage}
@@ -65,7 +65,7 @@ pub record Splits (k : Kind) (K : Key) (P : List ℕ) (t : ℕ) (octets : ℕ �
 module _ (n : ℕ) (pos : Slots n) (k : Kind) (K : Key) (P : List ℕ) (t : ℕ) (octets : ℕ → List ℕ) (written : ℕ → Input)
     (splits : Splits k K P t octets written) (two : 2 ≤ t) where
   sent-fair : (w : History) (c : Call) (total number start : ℕ) → read k (c .input) ≡ reading.gives (part K total number start) → Sent n t written w c total number start
-      → Fair n k K P (listed octets t) w c total number start
+      → Fair n k K P (listed octets t) InTime w c total number start
   sent-fair w c total number start e s =
       let from = splits .from in
       let z : reading.gives (part K t (s .which) (from (s .which))) ≡ reading.gives (part K total number start) =
@@ -80,14 +80,15 @@ module _ (n : ℕ) (pos : Slots n) (k : Kind) (K : Key) (P : List ℕ) (t : ℕ)
         brought = rw (← f′, ← m′) (ap (λ (i : Input). drop (from (s .which)) (octetsOf i)) (s .is) ∙ splits .own (s .which)
             ∙ ap octets (omega arith) ∙ sym (listed-at octets [] t (s .which - 1) (omega arith)));
         fewOthers = s .fewOthers;
+        inTime = s .inTime;
       }
 
-  module _ (cells : List ℕ) (earlier calls : List Call) (s : Sending n k K P cells earlier calls) where
+  module _ (cells : List ℕ) (earlier calls : List Event) (s : Sending n k K P cells earlier calls) where
     abbrev w : History
     w = begin n k cells earlier
 
     module _ (sent : EachWith n k K t (Sent n t written) w calls) where
-      starts : Start n k K P (listed octets t) cells earlier calls
+      starts : Start n k K P (listed octets t) InTime cells earlier calls
       starts = record {
         formed = s .formed;
         cut = splits .cut (s .formed);
@@ -96,7 +97,7 @@ module _ (n : ℕ) (pos : Slots n) (k : Kind) (K : Key) (P : List ℕ) (t : ℕ)
         before = s .before;
         proper = s .proper;
         lacks = s .lacks;
-        fair = subst (λ (m : ℕ). EachWith n k K m (Fair n k K P (listed octets t)) w calls) (sym (length-listed octets t))
+        fair = subst (λ (m : ℕ). EachWith n k K m (Fair n k K P (listed octets t) InTime) w calls) (sym (length-listed octets t))
             (λ u c v e total number start r o. sent-fair (follow n k K w u) c total number start r (sent u c v e total number start r o));
       }
 

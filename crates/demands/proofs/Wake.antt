@@ -1,13 +1,15 @@
 -- The wake window: the invariant holds from call to call, so each call with the key is served.
-use Prim.Native.Nat.{ℕ, _+_, _-_, _≤_, _<_}
+use Prim.Native.Nat.{ℕ, suc, _+_, _-_, _≤_, _<_}
 use mathlib.Core.Path.{_≡_, refl, sym, ap, _∙_, subst}
-use mathlib.Core.Bool.{Bool, true, false}
+use mathlib.Core.Bool.{Bool, true, false, _||_}
 use mathlib.Core.List.{List, [], _∷_}
 use mathlib.Core.Option.{Option, none, some}
 use native.Mathlib.Omega.{arith}
 use lib.ListN.{length, getD, drop}
+use lib.Dec.{eqb}
+use borrow.Author.Tests.{eq-eqb}
 use Rattle.octets.specs.Octets.{Octets}
-use Rattle.octets.specs.Tests.{clash}
+use Rattle.octets.specs.Tests.{clash, Same, same, other, same?}
 use Rattle.types.specs.declared.Kind.{Kind}
 use Rattle.types.specs.Refusals as reading
 use Rattle.packet.specs.Packets.{wellFormed}
@@ -17,18 +19,19 @@ use Rattle.arrival.specs.Laws.{Admitted, message-part, page-part}
 use Rattle.joined.specs.Fronts.{packetIn}
 use Rattle.slots.specs.BelowLaws.{all-at, all-hold}
 use Rattle.series.specs.Taking.{State, After, state, handOut, step, takePart, taken}
+use Rattle.beats.specs.Beats.{AfterBeat, beat}
 use Rattle.series.specs.Calls.{Input, message, page, read, octetsOf}
 use Rattle.series.specs.CaseLaws.{Case, case-of}
 use Rattle.slots.specs.FrontLaws.{key-same}
 use Rattle.formed.specs.Laws.{Formed}
 use Rattle.types.specs.declared.Record.{Record}
 use Rattle.demands.specs.Lists.{elem, add, complete}
-use Rattle.demands.specs.Runs.{Slots, Call, outcome, left, Proper, Each}
-use Rattle.demands.specs.Wake.{Cut, History, Start, begin, historyAfter, follow, EachWith, Fair, Served, again, waits, wakes, WakeWindow, Comes, comes, PacketComes}
+use Rattle.demands.specs.Runs.{Slots, Call, Event, takes, beats, Store, outcome, left, ProperCall, Proper, Each}
+use Rattle.demands.specs.Wake.{Cut, History, FewerThanLeast, InTime, Start, begin, historyAfter, historyBy, follow, EachWith, Fair, Served, again, waits, wakes, WakeWindow, Comes, comes, PacketComes}
 use Rattle.demands.proofs.Lists.{Alike, alike, unlike, alike?, elem-still, add-old}
-use Rattle.demands.proofs.Calls.{isPage, taking, Kept, Admits, kept-proper, kept-fresh}
-use Rattle.demands.proofs.Along.{Here, Along, each-with}
-use Rattle.demands.proofs.Window.{Phase, before, during, done, other-part, Serves, fine-known, fine-first}
+use Rattle.demands.proofs.Calls.{isPage, taking, Kept, Admits, Beat, no-beat, is-beat, beat?, beat-is, kept-proper, kept-beat, kept-fresh}
+use Rattle.demands.proofs.Along.{Here, HereBy, Along, each-with}
+use Rattle.demands.proofs.Window.{Phase, before, during, done, beat-phase, other-part, Serves, fine-known, fine-first}
 
 -- reading admits what a record can hold
 pub admits : (k : Kind) (c : Call) → Octets (octetsOf (c .input)) → Admits k c
@@ -44,10 +47,10 @@ complete-more t m got e = all-hold t (λ i. elem (i + 1) (add m got)) (λ i l. e
 
 module _ (n : ℕ) (pos : Slots n) (k : Kind) (K : Key) (P : List ℕ) (parts : List (List ℕ)) (good : wellFormed k P ≡ true) (cut : Cut K P parts) (two : 2 ≤ length parts) where
   abbrev PhaseOf : History → Type 0
-  PhaseOf w = Phase n K parts (w .store .rec .slots) (w .store .cells) (w .arrived) (w .slot) (w .othersSince)
+  PhaseOf w = Phase n K parts (w .store .rec .slots) (w .store .cells) (w .arrived) (w .slot) (w .othersSince) (w .beatsSince)
 
   -- ---- one call
-  module _ (q : History) (w : Kept n k (q .store)) (c : Call) (p : Proper c) where
+  module _ (q : History) (w : Kept n k (q .store)) (c : Call) (p : ProperCall c) where
     abbrev s : State
     s = state (q .store .rec) (q .store .cells) (c .output)
 
@@ -57,7 +60,7 @@ module _ (n : ℕ) (pos : Slots n) (k : Kind) (K : Key) (P : List ℕ) (parts : 
     comes-to : outcome n (q .store) c ≡ taken n s (isPage (c .input)) o (read k (c .input))
     comes-to = taking n s (w .sound) (p .output) (c .input) ∙ ap (λ (x : Kind). taken n s (isPage (c .input)) o (read x (c .input))) (w .kind)
 
-    module _ (ph : PhaseOf q) (fair : Here n k K (length parts) (Fair n k K P parts) q c) where
+    module _ (ph : PhaseOf q) (fair : Here n k K (length parts) (Fair n k K P parts InTime) q c) where
       formed-here : Formed n k (q .store .rec .slots)
       formed-here = subst (λ (x : Kind). Formed n x (q .store .rec .slots)) (w .kind) (w .sound .formed)
 
@@ -72,21 +75,21 @@ module _ (n : ℕ) (pos : Slots n) (k : Kind) (K : Key) (P : List ℕ) (parts : 
           let f = fair total number start e unfinished in
           let adm = admits k c (p .octets) K total number start e in
           subst (λ (t : ℕ). Serves n k K P parts q c t number start (takePart n s K t number (drop start o))) (sym (f .counted))
-          (go ph (subst (λ (t : ℕ). Admitted k K t number (drop start o)) (f .counted) adm) (f .brought) (f .fewOthers))
+          (go ph (subst (λ (t : ℕ). Admitted k K t number (drop start o)) (f .counted) adm) (f .brought) (f .fewOthers) (f .inTime))
         where
-          go : PhaseOf q → Admitted k K (length parts) number (drop start o) → drop start o ≡ getD parts (number - 1) [] → ((q .arrived ≡ [] → ⊥) → length (q .othersSince) < n)
+          go : PhaseOf q → Admitted k K (length parts) number (drop start o) → drop start o ≡ getD parts (number - 1) [] → ((q .arrived ≡ [] → ⊥) → length (q .othersSince) < n) → ((q .arrived ≡ [] → ⊥) → InTime (q .beatsSince))
               → Serves n k K P parts q c (length parts) number start (takePart n s K (length parts) number (drop start o))
-          go (before z lacks) adm brought soon =
+          go (before z lacks) adm brought few soon =
               fine-first n k K P parts good cut two q c (w .kind) formed-here (w .sound .size) number start (drop start o) adm brought z lacks
               (step n s K (length parts) number (drop start o)) (case-here K (length parts) number start)
-          go (during ne track) adm brought soon =
-              fine-known n k K P parts good cut two q c (w .kind) formed-here (w .sound .size) number start (drop start o) adm brought ne (q .othersSince) (track (soon ne))
+          go (during ne track) adm brought few soon =
+              fine-known n k K P parts good cut two q c (w .kind) formed-here (w .sound .size) number start (drop start o) adm brought ne (q .othersSince) (q .beatsSince) (track (few ne) (soon ne))
               (step n s K (length parts) number (drop start o)) (case-here K (length parts) number start)
-          go (done d) adm brought soon = absurd (clash (complete (length parts) (q .arrived)) d unfinished)
+          go (done d) adm brought few soon = absurd (clash (complete (length parts) (q .arrived)) d unfinished)
 
       -- any call
-      handed : (r : Record) (x : Option (List ℕ)) → Phase n K parts (r .slots) (q .store .cells) (q .arrived) (q .slot) (q .othersSince)
-          → Phase n K parts (handOut s r x .state .rec .slots) (handOut s r x .state .cells) (q .arrived) (q .slot) (q .othersSince)
+      handed : (r : Record) (x : Option (List ℕ)) → Phase n K parts (r .slots) (q .store .cells) (q .arrived) (q .slot) (q .othersSince) (q .beatsSince)
+          → Phase n K parts (handOut s r x .state .rec .slots) (handOut s r x .state .cells) (q .arrived) (q .slot) (q .othersSince) (q .beatsSince)
       handed r none h = h
       handed r (some x) h = h
 
@@ -103,22 +106,37 @@ module _ (n : ℕ) (pos : Slots n) (k : Kind) (K : Key) (P : List ℕ) (parts : 
           (own-phase total number start (e ∙ ap (λ (Y : Key). reading.gives (part Y total number start)) x) (complete (length parts) (q .arrived)) refl)
       by-key X total number start (unlike f ne) e =
           rw f (other-part n K parts k s formed-here (w .sound .size) X ne total number (drop start o)
-          (admits k c (p .octets) X total number start e) (q .arrived) (q .slot) (q .othersSince) (step n s X total number (drop start o)) (case-here X total number start) ph)
+          (admits k c (p .octets) X total number start e) (q .arrived) (q .slot) (q .othersSince) (q .beatsSince) (step n s X total number (drop start o)) (case-here X total number start) ph)
 
       phase-after : (r : reading.Outcome Brought) → read k (c .input) ≡ r → PhaseOf (historyAfter n k K q (taken n s (isPage (c .input)) o r) r)
       phase-after (reading.refused m) e = ph
       phase-after (reading.gives (single start)) e = handed (q .store .rec) (packetIn (q .store .rec .kind) (isPage (c .input)) 1 (drop start o)) ph
       phase-after (reading.gives (part X total number start)) e = by-key X total number start (alike? X K) e
 
-      one-call : Here n k K (length parts) (Served n k K P parts) q c × PhaseOf (follow n k K q (c ∷ []))
+      one-call : Here n k K (length parts) (Served n k K P parts) q c × PhaseOf (historyBy n k K q (takes c))
       one-call = (
         (λ total number start e open′. own-part total number start e open′ .served (comes-to ∙ ap (taken n s (isPage (c .input)) o) e)),
         subst (λ (a : After). PhaseOf (historyAfter n k K q a (read k (c .input)))) (sym comes-to) (phase-after (read k (c .input)) refl),
       )
 
-  -- ---- any list of calls
-  sound-next : (q : History) → Kept n k (q .store) → (c : Call) → Proper c → Kept n k (follow n k K q (c ∷ []) .store)
-  sound-next q w c p = go (read k (c .input))
+  -- ---- one beat
+  one-beat : (q : History) → Kept n k (q .store) → (limit : ℕ) → PhaseOf q → PhaseOf (historyBy n k K q (beats limit))
+  one-beat q w limit ph = go (same? limit 0)
+    where
+      -- with limit 0 it is refused, and leaves the record
+      refused-there : (a : AfterBeat) → Beat n pos k (q .store .rec) limit a → limit ≡ 0 → Phase n K parts (a .rec .slots) (q .store .cells) (q .arrived) (q .slot) (q .othersSince) (q .beatsSince)
+      refused-there a (no-beat m) z = ph
+      refused-there a (is-beat low) z = absurd (omega arith)
+
+      go : Same limit 0 → PhaseOf (historyBy n k K q (beats limit))
+      go (same e z) = rw e (refused-there (beat n (q .store .rec) limit) (beat? n pos k (q .store .rec) limit) z)
+      go (other e z) =
+          rw e (subst (λ (st : Store). Phase n K parts (st .rec .slots) (st .cells) (q .arrived) (q .slot) (q .othersSince) (limit ∷ q .beatsSince)) (sym (beat-is n pos k (q .store) w limit z))
+          (beat-phase n K parts limit (q .store .rec .slots) (q .store .cells) (q .arrived) (q .slot) (q .othersSince) (q .beatsSince) ph))
+
+  -- ---- any list of events
+  sound-call : (q : History) → Kept n k (q .store) → (c : Call) → ProperCall c → Kept n k (historyBy n k K q (takes c) .store)
+  sound-call q w c p = go (read k (c .input))
     where
       next : Kept n k (left (outcome n (q .store) c))
       next = kept-proper n pos k (admits k) (q .store) w c p
@@ -132,29 +150,38 @@ module _ (n : ℕ) (pos : Slots n) (k : Kind) (K : Key) (P : List ℕ) (parts : 
       go (reading.gives (single start)) = next
       go (reading.gives (part X total number start)) = by-key X total number start (alike? X K)
 
-  abbrev All : History → List Call → Type 0
-  All q calls = EachWith n k K (length parts) (Fair n k K P parts) q calls
+  sound-next : (q : History) → Kept n k (q .store) → (c : Event) → Proper c → Kept n k (historyBy n k K q c .store)
+  sound-next q w (takes c) p = sound-call q w c p
+  sound-next q w (beats limit) p = kept-beat n pos k (admits k) (q .store) w limit p
 
-  rest : (q : History) (c : Call) (cs : List Call) → All q (c ∷ cs) → All (follow n k K q (c ∷ [])) cs
-  rest q c cs f u d v e = f (c ∷ u) d v (ap (λ (l : List Call). c ∷ l) e)
+  abbrev All : History → List Event → Type 0
+  All q calls = EachWith n k K (length parts) (Fair n k K P parts InTime) q calls
 
-  served : (calls : List Call) (q : History) → Kept n k (q .store) → PhaseOf q → Each Proper calls → All q calls → Along n k K (length parts) (Served n k K P parts) q calls
+  rest : (q : History) (c : Event) (cs : List Event) → All q (c ∷ cs) → All (historyBy n k K q c) cs
+  rest q c cs f u d v e = f (c ∷ u) d v (ap (λ (l : List Event). c ∷ l) e)
+
+  one-event : (q : History) → Kept n k (q .store) → (c : Event) (cs : List Event) → Proper c → PhaseOf q → All q (c ∷ cs)
+      → HereBy n k K (length parts) (Served n k K P parts) q c × PhaseOf (historyBy n k K q c)
+  one-event q w (takes c) cs p ph f = one-call q w c p ph (f [] c cs refl)
+  one-event q w (beats limit) cs p ph f = (tt, one-beat q w limit ph)
+
+  served : (calls : List Event) (q : History) → Kept n k (q .store) → PhaseOf q → Each Proper calls → All q calls → Along n k K (length parts) (Served n k K P parts) q calls
   served [] q w ph ps f = tt
   served (c ∷ cs) q w ph ps f =
       let p = ps [] c cs refl in
-      let r = one-call q w c p ph (f [] c cs refl) in
-      (r .0, served cs (follow n k K q (c ∷ [])) (sound-next q w c p) (r .1) (λ u d v e. ps (c ∷ u) d v (ap (λ (l : List Call). c ∷ l) e)) (rest q c cs f))
+      let r = one-event q w c cs p ph f in
+      (r .0, served cs (historyBy n k K q c) (sound-next q w c p) (r .1) (λ u d v e. ps (c ∷ u) d v (ap (λ (l : List Event). c ∷ l) e)) (rest q c cs f))
 
   -- ---- the call that brings the last missing part
   -- a call after which no part is missing, where one was before it, brings the last of them
-  last-call : (q : History) (c : Call) (cs : List Call) (r : reading.Outcome Brought) → read k (c .input) ≡ r
-      → Here n k K (length parts) (Fair n k K P parts) q c → Here n k K (length parts) (Served n k K P parts) q c
-      → complete (length parts) (q .arrived) ≡ false → complete (length parts) (historyAfter n k K q (outcome n (q .store) c) r .arrived) ≡ true → Comes n k K P parts q (c ∷ cs)
+  last-call : (q : History) (c : Call) (cs : List Event) (r : reading.Outcome Brought) → read k (c .input) ≡ r
+      → Here n k K (length parts) (Fair n k K P parts InTime) q c → Here n k K (length parts) (Served n k K P parts) q c
+      → complete (length parts) (q .arrived) ≡ false → complete (length parts) (historyAfter n k K q (outcome n (q .store) c) r .arrived) ≡ true → Comes n k K P parts q (takes c ∷ cs)
   last-call q c cs (reading.refused m) b f s o g = absurd (clash (complete (length parts) (q .arrived)) g o)
   last-call q c cs (reading.gives (single start)) b f s o g = absurd (clash (complete (length parts) (q .arrived)) g o)
   last-call q c cs (reading.gives (part X total number start)) b f s o g = go (alike? X K)
     where
-      go : Alike X K → Comes n k K P parts q (c ∷ cs)
+      go : Alike X K → Comes n k K P parts q (takes c ∷ cs)
       go (unlike e ne) = absurd (clash (complete (length parts) (q .arrived)) (rw e at g) o)
       go (alike e x) =
           let b′ : read k (c .input) ≡ reading.gives (part K total number start) = b ∙ ap (λ (Y : Key). reading.gives (part Y total number start)) x in
@@ -162,37 +189,42 @@ module _ (n : ℕ) (pos : Slots n) (k : Kind) (K : Key) (P : List ℕ) (parts : 
           by-answer full (b′ ∙ ap (λ (t : ℕ). reading.gives (part K t number start)) (f total number start b′ o .counted)) (s total number start b′ o)
         where
           by-answer : complete (length parts) (add number (q .arrived)) ≡ true → read k (c .input) ≡ reading.gives (part K (length parts) number start)
-              → Served n k K P parts q c total number start → Comes n k K P parts q (c ∷ cs)
+              → Served n k K P parts q c total number start → Comes n k K P parts q (takes c ∷ cs)
           by-answer full b′ (again r old bears is) = absurd (clash (complete (length parts) (q .arrived)) (rw (add-old number (q .arrived) old) at full) o)
           by-answer full b′ (waits r i d new open′ is place bears) = absurd (clash (complete (length parts) (add number (q .arrived))) full open′)
           by-answer full b′ (wakes r new all gone is) = comes [] c cs number start r refl b′ new all gone is
 
-  handed-out : (calls : List Call) (q : History) → All q calls → Along n k K (length parts) (Served n k K P parts) q calls → complete (length parts) (q .arrived) ≡ false
+  handed-out : (calls : List Event) (q : History) → All q calls → Along n k K (length parts) (Served n k K P parts) q calls → complete (length parts) (q .arrived) ≡ false
       → complete (length parts) (follow n k K q calls .arrived) ≡ true → Comes n k K P parts q calls
   handed-out [] q f s o g = absurd (clash (complete (length parts) (q .arrived)) g o)
   handed-out (c ∷ cs) q f s o g =
-      go (complete (length parts) (follow n k K q (c ∷ []) .arrived)) refl (λ o′. handed-out cs (follow n k K q (c ∷ [])) (rest q c cs f) (s .1) o′ g)
+      go (complete (length parts) (historyBy n k K q c .arrived)) refl (λ o′. handed-out cs (historyBy n k K q c) (rest q c cs f) (s .1) o′ g)
     where
-      later : Comes n k K P parts (follow n k K q (c ∷ [])) cs → Comes n k K P parts q (c ∷ cs)
-      later (comes u d v number start r at reads new all gone is) = comes (c ∷ u) d v number start r (ap (λ (l : List Call). c ∷ l) at) reads new all gone is
+      later : Comes n k K P parts (historyBy n k K q c) cs → Comes n k K P parts q (c ∷ cs)
+      later (comes u d v number start r at reads new all gone is) = comes (c ∷ u) d v number start r (ap (λ (l : List Event). c ∷ l) at) reads new all gone is
 
-      go : (b : Bool) → complete (length parts) (follow n k K q (c ∷ []) .arrived) ≡ b
-          → (complete (length parts) (follow n k K q (c ∷ []) .arrived) ≡ false → Comes n k K P parts (follow n k K q (c ∷ [])) cs) → Comes n k K P parts q (c ∷ cs)
-      go true e ih = last-call q c cs (read k (c .input)) refl (f [] c cs refl) (s .0) o e
+      -- no beat brings a part
+      now : (d : Event) → All q (d ∷ cs) → HereBy n k K (length parts) (Served n k K P parts) q d → complete (length parts) (historyBy n k K q d .arrived) ≡ true → Comes n k K P parts q (d ∷ cs)
+      now (takes d) f s e = last-call q d cs (read k (d .input)) refl (f [] d cs refl) s o e
+      now (beats limit) f s e = absurd (clash (complete (length parts) (q .arrived)) e o)
+
+      go : (b : Bool) → complete (length parts) (historyBy n k K q c .arrived) ≡ b
+          → (complete (length parts) (historyBy n k K q c .arrived) ≡ false → Comes n k K P parts (historyBy n k K q c) cs) → Comes n k K P parts q (c ∷ cs)
+      go true e ih = now c f (s .0) e
       go false e ih = later (ih e)
 
 -- ---- the theorems
 module _ (n : ℕ) (pos : Slots n) (k : Kind) (K : Key) (P : List ℕ) (parts : List (List ℕ)) where
-  all-served : (cells : List ℕ) (earlier calls : List Call) → Start n k K P parts cells earlier calls
+  all-served : (cells : List ℕ) (earlier calls : List Event) → Start n k K P parts InTime cells earlier calls
       → Along n k K (length parts) (Served n k K P parts) (begin n k cells earlier) calls
   all-served cells earlier calls st =
       served n pos k K P parts (st .formed) (st .cut) (st .two) calls (begin n k cells earlier)
       (kept-fresh n pos k (admits k) cells (st .size) earlier (st .before)) (before refl (st .lacks)) (st .proper) (st .fair)
 
-  pub wake-window : WakeWindow n k K P parts
+  pub wake-window : WakeWindow n k K P parts InTime
   wake-window cells earlier calls st = each-with n k K (length parts) (Served n k K P parts) calls (begin n k cells earlier) (all-served cells earlier calls st)
 
-  pub packet-comes : PacketComes n k K P parts
+  pub packet-comes : PacketComes n k K P parts InTime
   packet-comes cells earlier calls st =
       handed-out n pos k K P parts (st .formed) (st .cut) (st .two) calls (begin n k cells earlier) (st .fair) (all-served cells earlier calls st)
       (none-complete (length parts) (st .two))
@@ -203,3 +235,39 @@ module _ (n : ℕ) (pos : Slots n) (k : Kind) (K : Key) (P : List ℕ) (parts : 
           go : (b : Bool) → complete t [] ≡ b → b ≡ false
           go false e = refl
           go true e = absurd (clash false (all-at t (λ i. elem (i + 1) []) e 0 (omega arith)) refl)
+
+-- ---- in the words of 02
+-- fewer beats than the least limit are in time: the i-th has i − 1 before it, and there are fewer than its limit in all
+fewer-in-time : (limits : List ℕ) → FewerThanLeast limits → InTime limits
+fewer-in-time limits few = go limits 0 (λ limit e. omega (arith, few limit e))
+  where
+    -- with m beats more behind these
+    go : (limits : List ℕ) (m : ℕ) → ((limit : ℕ) → elem limit limits ≡ true → length limits + m < limit) → InTime limits
+    go [] m few = tt
+    go (limit ∷ earlier) m few =
+        (omega (arith, few limit (rw (eq-eqb limit limit refl))), go earlier (suc m) (λ l e. omega (arith, few l (either l (same? l limit) e))))
+      where
+        either : (l : ℕ) → Same l limit → elem l earlier ≡ true → eqb l limit || elem l earlier ≡ true
+        either l (same p q) e = rw p
+        either l (other p q) e = rw p e
+
+module _ (n : ℕ) (pos : Slots n) (k : Kind) (K : Key) (P : List ℕ) (parts : List (List ℕ)) where
+  sharper : (cells : List ℕ) (earlier calls : List Event) → Start n k K P parts FewerThanLeast cells earlier calls → Start n k K P parts InTime cells earlier calls
+  sharper cells earlier calls st = record {
+    formed = st .formed;
+    cut = st .cut;
+    two = st .two;
+    size = st .size;
+    before = st .before;
+    proper = st .proper;
+    lacks = st .lacks;
+    fair = λ u c v e total number start reads open′.
+        let f = st .fair u c v e total number start reads open′ in
+        record { counted = f .counted; brought = f .brought; fewOthers = f .fewOthers; inTime = λ begun. fewer-in-time (follow n k K (begin n k cells earlier) u .beatsSince) (f .inTime begun) };
+  }
+
+  pub wake-window-least : WakeWindow n k K P parts FewerThanLeast
+  wake-window-least cells earlier calls st = wake-window n pos k K P parts cells earlier calls (sharper cells earlier calls st)
+
+  pub packet-comes-least : PacketComes n k K P parts FewerThanLeast
+  packet-comes-least cells earlier calls st = packet-comes n pos k K P parts cells earlier calls (sharper cells earlier calls st)

@@ -20,32 +20,32 @@ use Rattle.series.specs.CaseLaws.{Lacks}
 use Rattle.series.specs.Calls.{Input, message, page}
 use Rattle.split.specs.Splitting as split
 use Rattle.demands.specs.Lists.{complete}
-use Rattle.demands.specs.Runs.{Call, fresh, outcome, run, Proper, Each}
+use Rattle.demands.specs.Runs.{Call, Event, takes, fresh, outcome, run, Proper, Each}
 use Rattle.demands.specs.Wake.{History, begin, EachWith, Served, Comes}
 use Rattle.demands.specs.SplitTaken.{listed, keyUnder}
 
 -- The calls bring, in this order, the inputs that were written under these numbers, and nothing else; each lends an output of 01's length.
-pub data Brings (t : ℕ) (written : ℕ → Input) : List ℕ → List Call → Type 0 where
+pub data Brings (t : ℕ) (written : ℕ → Input) : List ℕ → List Event → Type 0 where
   nothing-more : Brings t written [] []
-  next : {order : List ℕ} {calls : List Call} (number : ℕ) → 1 ≤ number → number ≤ t → (c : Call) → c .input ≡ written number
-      → length (c .output) ≡ mostOctets → Brings t written order calls → Brings t written (number ∷ order) (c ∷ calls)
+  next : {order : List ℕ} {calls : List Event} (number : ℕ) → 1 ≤ number → number ≤ t → (c : Call) → c .input ≡ written number
+      → length (c .output) ≡ mostOctets → Brings t written order calls → Brings t written (number ∷ order) (takes c ∷ calls)
 
 module _ (n : ℕ) (k : Kind) (K : Key) (P : List ℕ) (t : ℕ) (octets : ℕ → List ℕ) (written : ℕ → Input) where
   -- each call is answered exactly as the wake window says, and the packet comes at the one that brings the last missing part
-  pub record InParts (w : History) (calls : List Call) : Type 0 where
+  pub record InParts (w : History) (calls : List Event) : Type 0 where
     pub answered : EachWith n k K (length (listed octets t)) (Served n k K P (listed octets t)) w calls
     pub comes : Comes n k K P (listed octets t) w calls
 
   -- One input: the packet comes at once, record and cells as they were, the rest of the output too. Several: if the key is not held, in parts.
-  pub record Delivers (cells : List ℕ) (earlier : List Call) : Type 0 where
+  pub record Delivers (cells : List ℕ) (earlier : List Event) : Type 0 where
     pub at-once : t ≡ 1 → (c : Call) → c .input ≡ written 1 → length (c .output) ≡ mostOctets
         → outcome n (run n (fresh n k cells) earlier) c
         ≡ after (packet (length P)) (run n (fresh n k cells) earlier .rec) (run n (fresh n k cells) earlier .cells) (P ++ drop (length P) (c .output))
-    pub in-parts : (t ≡ 1 → ⊥) → Lacks n (run n (fresh n k cells) earlier .rec .slots) K → (order : List ℕ) (calls : List Call)
+    pub in-parts : (t ≡ 1 → ⊥) → Lacks n (run n (fresh n k cells) earlier .rec .slots) K → (order : List ℕ) (calls : List Event)
         → Brings t written order calls → complete t order ≡ true → InParts (begin n k cells earlier) calls
 
   abbrev pub Delivered : Type 0
-  Delivered = (cells : List ℕ) (earlier : List Call) → length cells ≡ cellsSize n → Each Proper earlier → Delivers cells earlier
+  Delivered = (cells : List ℕ) (earlier : List Event) → length cells ≡ cellsSize n → Each Proper earlier → Delivers cells earlier
 
 -- every packet that can be split into user data, for either kind and either width
 abbrev pub MessagesDelivered : ℕ → Type 0

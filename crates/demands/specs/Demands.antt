@@ -11,7 +11,7 @@ use Rattle.demands.specs.Orders.{OrderFree}
 use Rattle.demands.specs.Twice.{ReadAsWithout, TakenAsWithout, LastReplaces}
 use Rattle.demands.specs.RoundTrips.{BuildThenRead, CommandTells, ReadThenBuild, AnswersBuild, ReadThenBuildCalls, FixedLengths, ChecksumCovers, ParsesOrRefuses, ParsedIsFormed, BuildsOrRefuses, SplitMessages, SplitPages}
 use Rattle.demands.specs.Checked.{CheckBits, StillCarried}
-use Rattle.demands.specs.Wake.{WakeWindow, PacketComes}
+use Rattle.demands.specs.Wake.{FewerThanLeast, InTime, WakeWindow, PacketComes}
 use Rattle.demands.specs.Always.{AlwaysFormed, NoKeyTwice}
 use Rattle.demands.specs.Crowding.{NeverDisplaced}
 use Rattle.demands.specs.SplitTaken.{MessagesArrive, PagesArrive}
@@ -71,11 +71,13 @@ pub record Demand2 : Type 0 where
   pub editions-alike : EditionsAlike
   pub either-accepted : EitherAccepted
 
--- 3. The wake window with n slots, for either kind, every key, every packet and every cut of it: "at most n − 1 other keys" (02 [5]); and "at
--- no moment does one key occupy two slots". No series is displaced while at most n keys are unfinished.
+-- 3. The wake window with n slots, for either kind, every key, every packet and every cut of it: "at most n − 1 other keys" (02 [5]), "fewer beats
+-- than the least limit used" (02 [6]), and the same with the sharper premise that the i-th beat has a limit above i; and "at no moment does one key occupy two slots". No series is displaced while at most n keys are unfinished.
 pub record Demand3 (n : ℕ) : Type 0 where
-  pub wake-window : (k : Kind) (K : Key) (P : List ℕ) (parts : List (List ℕ)) → WakeWindow n k K P parts
-  pub packet-comes : (k : Kind) (K : Key) (P : List ℕ) (parts : List (List ℕ)) → PacketComes n k K P parts
+  pub wake-window : (k : Kind) (K : Key) (P : List ℕ) (parts : List (List ℕ)) → WakeWindow n k K P parts FewerThanLeast
+  pub packet-comes : (k : Kind) (K : Key) (P : List ℕ) (parts : List (List ℕ)) → PacketComes n k K P parts FewerThanLeast
+  pub wake-window-sharp : (k : Kind) (K : Key) (P : List ℕ) (parts : List (List ℕ)) → WakeWindow n k K P parts InTime
+  pub packet-comes-sharp : (k : Kind) (K : Key) (P : List ℕ) (parts : List (List ℕ)) → PacketComes n k K P parts InTime
   pub always-formed : (k : Kind) → AlwaysFormed n k
   pub no-key-twice : (k : Kind) → NoKeyTwice n k
   pub never-displaced : (k : Kind) → NeverDisplaced n k

@@ -58,6 +58,7 @@ marked i = set (replicate 16 false) i true
 abbrev seriesH : Slot
 seriesH = record {
   rank = 1;
+  beats = 0;
   key = record { sender = 9; width = 8; reference = 0x2A; serial = record { 0 = 0 }; identifier = record { 0 = 0 } };
   total = 2;
   lengths = replicate 16 0;
@@ -67,6 +68,7 @@ seriesH = record {
 abbrev seriesM : Slot
 seriesM = record {
   rank = 1;
+  beats = 0;
   key = record { sender = 0; width = 0; reference = 0; serial = record { 0 = 0x0000 }; identifier = record { 0 = 0x1080 } };
   total = 3;
   lengths = set (replicate 16 0) 1 82;

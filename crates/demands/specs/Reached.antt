@@ -15,8 +15,8 @@ use Rattle.series.specs.CaseLaws.{Lacks}
 use Rattle.series.specs.Calls.{Input, message, page}
 use Rattle.split.specs.Splitting as split
 use Rattle.demands.specs.Examples.{M}
-use Rattle.demands.specs.Runs.{Call, fresh, outcome, run}
-use Rattle.demands.specs.Wake.{Start, begin}
+use Rattle.demands.specs.Runs.{Call, Event, takes, fresh, outcome, run}
+use Rattle.demands.specs.Wake.{Start, InTime, begin}
 use Rattle.demands.specs.SplitTaken.{listed}
 use Rattle.demands.specs.Delivery.{InParts}
 
@@ -54,17 +54,17 @@ module _ (b : ℕ) where
   abbrev pub stranger : ℕ → Call
   stranger sender = callFrom sender (0x05 ∷ 0x00 ∷ 0x03 ∷ 0x2A ∷ 0x02 ∷ 0x02 ∷ [])
 
-  abbrev pub strangers : ℕ → ℕ → List Call
+  abbrev pub strangers : ℕ → ℕ → List Event
   strangers sender zero = []
-  strangers sender (suc m) = stranger sender ∷ strangers (suc sender) m
+  strangers sender (suc m) = takes (stranger sender) ∷ strangers (suc sender) m
 
   -- the first part, and then m other keys
-  abbrev pub crowd : ℕ → List Call
-  crowd m = first ∷ strangers 2 m
+  abbrev pub crowd : ℕ → List Event
+  crowd m = takes first ∷ strangers 2 m
 
   -- the parts 1 to t, in order
-  abbrev pub inOrder : ℕ → (ℕ → Input) → List Call
-  inOrder t written = listed (λ number. record { input = written number; output = replicate mostOctets b }) t
+  abbrev pub inOrder : ℕ → (ℕ → Input) → List Event
+  inOrder t written = listed (λ number. takes (record { input = written number; output = replicate mostOctets b })) t
 
 module _ (n b : ℕ) where
   abbrev pub cells : List ℕ
@@ -72,7 +72,7 @@ module _ (n b : ℕ) where
 
   -- with n − 1 other keys the premises hold, and the packet comes
   pub record Met : Type 0 where
-    pub start : Start n Command key M halves cells [] (crowd b (n - 1) ++ second b ∷ [])
+    pub start : Start n Command key M halves InTime cells [] (crowd b (n - 1) ++ takes (second b) ∷ [])
     pub comes : outcome n (run n (fresh n Command cells) (crowd b (n - 1))) (second b) .answer ≡ packet 16
 
   -- with n the first part is displaced: its key is held no more, and the second part opens a series anew, and displaces another

@@ -22,7 +22,7 @@ use Rattle.series.specs.Calls.{message}
 use Rattle.split.specs.Splitting as split
 use Rattle.report.specs.Reporting.{nothingGoes, inReport, announced, submitted, presentEdition, Reported, reported, writeReport, responseAnnounces}
 use Rattle.report.specs.Laws.{Asked, Unasked}
-use Rattle.demands.specs.Runs.{Call, fresh, outcome, run, Proper, Each}
+use Rattle.demands.specs.Runs.{Call, Event, takes, fresh, outcome, run, Proper, Each}
 use Rattle.demands.specs.SplitTaken.{keyUnder}
 use Rattle.demands.specs.Delivery.{Delivered}
 
@@ -48,7 +48,7 @@ module _ (edition spi capacity : ℕ) (p buffer : List ℕ) where
 pub record ReadAlone (n : ℕ) (o p : List ℕ) : Type 0 where
   pub alone : (sender : ℕ) → readMessage Response sender o ≡ gives (single 3)
   pub whole : drop 3 o ≡ p
-  pub handed-out : (sender : ℕ) (cells : List ℕ) (earlier : List Call) → length cells ≡ cellsSize n → Each Proper earlier
+  pub handed-out : (sender : ℕ) (cells : List ℕ) (earlier : List Event) → length cells ≡ cellsSize n → Each Proper earlier
       → (c : Call) → c .input ≡ message sender o → length (c .output) ≡ mostOctets
       → outcome n (run n (fresh n Response cells) earlier) c
       ≡ after (packet (length p)) (run n (fresh n Response cells) earlier .rec) (run n (fresh n Response cells) earlier .cells) (p ++ drop (length p) (c .output))

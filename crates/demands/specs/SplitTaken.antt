@@ -16,24 +16,25 @@ use Rattle.series.specs.CaseLaws.{Lacks}
 use Rattle.series.specs.Calls.{Input, message, page}
 use Rattle.split.specs.Splitting as split
 use Rattle.demands.specs.Lists.{complete}
-use Rattle.demands.specs.Runs.{Call, fresh, run, Proper, Each}
-use Rattle.demands.specs.Wake.{History, begin, follow, EachWith, Comes}
+use Rattle.demands.specs.Runs.{Call, Event, takes, fresh, run, Proper, Each}
+use Rattle.demands.specs.Wake.{History, InTime, begin, follow, EachWith, Comes}
 
 -- f 1, f 2, .. f t
 abbrev pub listed : {A : Type 0} → (ℕ → A) → ℕ → List A
 listed f zero = []
 listed f (suc m) = listed f m ++ (f (suc m) ∷ [])
 
--- A call with the key, while parts are missing, brings one of the t inputs that were written, with few other keys in between.
+-- A call with the key, while parts are missing, brings one of the t inputs that were written, with few other keys and no beat too late in between.
 pub record Sent (n t : ℕ) (written : ℕ → Input) (w : History) (c : Call) (total number start : ℕ) : Type 0 where
   pub which : ℕ
   pub low : 1 ≤ which
   pub high : which ≤ t
   pub is : c .input ≡ written which
   pub fewOthers : (w .arrived ≡ [] → ⊥) → length (w .othersSince) < n
+  pub inTime : (w .arrived ≡ [] → ⊥) → InTime (w .beatsSince)
 
 -- any calls before, from a fresh record, after which the key is not held
-pub record Sending (n : ℕ) (k : Kind) (K : Key) (P : List ℕ) (cells : List ℕ) (earlier calls : List Call) : Type 0 where
+pub record Sending (n : ℕ) (k : Kind) (K : Key) (P : List ℕ) (cells : List ℕ) (earlier calls : List Event) : Type 0 where
   pub formed : wellFormed k P ≡ true
   pub size : length cells ≡ cellsSize n
   pub before : Each Proper earlier
@@ -43,7 +44,7 @@ pub record Sending (n : ℕ) (k : Kind) (K : Key) (P : List ℕ) (cells : List �
 -- the packet comes, with all t inputs among the calls
 abbrev pub Arrives : (n : ℕ) (k : Kind) (K : Key) (P : List ℕ) (t : ℕ) (octets : ℕ → List ℕ) (written : ℕ → Input) → Type 0
 Arrives n k K P t octets written =
-    (cells : List ℕ) (earlier calls : List Call) → Sending n k K P cells earlier calls
+    (cells : List ℕ) (earlier calls : List Event) → Sending n k K P cells earlier calls
     → EachWith n k K t (Sent n t written) (begin n k cells earlier) calls
     → complete t (follow n k K (begin n k cells earlier) calls .arrived) ≡ true
     → Comes n k K P (listed octets t) (begin n k cells earlier) calls

@@ -1,10 +1,11 @@
--- Demand 3, the wake window, for n slots; 01's library has three. Premises and conclusion are two predicates of what was seen before a call
--- and of the call.
-use Prim.Native.Nat.{ℕ, _-_, _≤_, _<_}
+-- Demand 3, the wake window, for n slots and with beats (02 [5], [6]); 01's library has three and none. Premises and conclusion are two predicates
+-- of what was seen before a call and of the call.
+use Prim.Native.Nat.{ℕ, suc, _-_, _≤_, _<_}
 use mathlib.Core.Path.{_≡_}
 use mathlib.Core.Bool.{Bool, true, false, cond}
 use mathlib.Core.List.{List, [], _∷_, _++_}
 use lib.ListN.{length, getD, drop}
+use lib.Dec.{eqb}
 use Rattle.octets.specs.Octets.{placed}
 use Rattle.types.specs.declared.Kind.{Kind}
 use Rattle.types.specs.Refusals as reading
@@ -20,7 +21,7 @@ use Rattle.series.specs.Taking.{After, Answer, kept, heldAlready, packet, refus
 use Rattle.series.specs.CaseLaws.{Bears, Lacks}
 use Rattle.series.specs.Calls.{read, octetsOf}
 use Rattle.demands.specs.Lists.{concat, elem, add, addKey, complete}
-use Rattle.demands.specs.Runs.{Call, Store, fresh, outcome, left, run, Proper, Each}
+use Rattle.demands.specs.Runs.{Call, Event, takes, beats, Store, fresh, outcome, left, leftBy, run, Proper, Each}
 
 -- "cut into 2 to 16 parts": joined in order they are the packet; for pages "as few pages as hold it, then filler"
 pub data Cut (K : Key) (P : List ℕ) (parts : List (List ℕ)) : Type 0 where
@@ -28,16 +29,18 @@ pub data Cut (K : Key) (P : List ℕ) (parts : List (List ℕ)) : Type 0 where
   in-pages : ofPages K ≡ true → (filler : List ℕ) → concat parts ≡ P ++ filler → pagesAllow (length parts) (length P) ≡ true → Cut K P parts
 
 -- What was seen before a call: what the calls before left; the numbers that calls with the key have brought, and the slot that the first of
--- them was answered with; and the other keys that calls answered "kept" or "held already" have borne since the last call with the key.
+-- them was answered with; and since the last call with the key: the other keys that calls answered "kept" or "held already" have borne, and the
+-- limits of the beats, the latest first.
 pub record History : Type 0 where
   pub store : Store
   pub arrived : List ℕ
   pub slot : ℕ
   pub othersSince : List Key
+  pub beatsSince : List ℕ
 
 -- after any calls from a fresh record, before the first that is looked at
-abbrev pub begin : ℕ → Kind → List ℕ → List Call → History
-begin n k cells earlier = record { store = run n (fresh n k cells) earlier; arrived = []; slot = 0; othersSince = [] }
+abbrev pub begin : ℕ → Kind → List ℕ → List Event → History
+begin n k cells earlier = record { store = run n (fresh n k cells) earlier; arrived = []; slot = 0; othersSince = []; beatsSince = [] }
 
 -- 'answered "kept" or "held already"'
 abbrev pub counts : After → Bool
@@ -47,6 +50,15 @@ counts a = elim (a .answer) [ kept i d ↦ true | heldAlready i ↦ true | packe
 abbrev pub firstSlot : List ℕ → Answer → ℕ → ℕ
 firstSlot [] answer was = elim answer [ kept i d ↦ i | heldAlready i ↦ was | packet m ↦ was | refusedBy m ↦ was ]
 firstSlot (m ∷ got) answer was = was
+
+-- "In demand 3, between two successive calls with the key there are fewer beats than the least limit used" (02 [6]), the least over those beats
+-- themselves; and sharper: the i-th beat since the last call with the key has a limit above i.
+abbrev pub FewerThanLeast : List ℕ → Type 0
+FewerThanLeast limits = (limit : ℕ) → elem limit limits ≡ true → length limits < limit
+
+abbrev pub InTime : List ℕ → Type 0
+InTime [] = Unit {0}
+InTime (limit ∷ earlier) = (suc (length earlier) < limit) × InTime earlier
 
 -- "A new key takes the lowest free slot; with none free it displaces the least recent series": the slot, and the mark of displacement. Later
 -- it is the slot of the first answer, and no mark. A free slot has rank 0, the most recent series rank 1.
@@ -58,28 +70,35 @@ pub data Seating (n : ℕ) (rank : ℕ → ℕ) (w : History) (i : ℕ) : Bool �
 module _ (n : ℕ) (k : Kind) (K : Key) where
   -- What is seen after a call. Which call bears a key is told by reading its octets, never by its answer.
   abbrev pub historyAfter : History → After → reading.Outcome Brought → History
-  historyAfter w a (reading.refused m) = record { store = left a; arrived = w .arrived; slot = w .slot; othersSince = w .othersSince }
-  historyAfter w a (reading.gives (single start)) = record { store = left a; arrived = w .arrived; slot = w .slot; othersSince = w .othersSince }
+  historyAfter w a (reading.refused m) = record { store = left a; arrived = w .arrived; slot = w .slot; othersSince = w .othersSince; beatsSince = w .beatsSince }
+  historyAfter w a (reading.gives (single start)) = record { store = left a; arrived = w .arrived; slot = w .slot; othersSince = w .othersSince; beatsSince = w .beatsSince }
   historyAfter w a (reading.gives (part X total number start)) = cond (sameKey X K)
-      (record { store = left a; arrived = add number (w .arrived); slot = firstSlot (w .arrived) (a .answer) (w .slot); othersSince = [] })
-      (record { store = left a; arrived = w .arrived; slot = w .slot; othersSince = cond (counts a) (addKey X (w .othersSince)) (w .othersSince) })
+      (record { store = left a; arrived = add number (w .arrived); slot = firstSlot (w .arrived) (a .answer) (w .slot); othersSince = []; beatsSince = [] })
+      (record { store = left a; arrived = w .arrived; slot = w .slot; othersSince = cond (counts a) (addKey X (w .othersSince)) (w .othersSince); beatsSince = w .beatsSince })
 
-  abbrev pub follow : History → List Call → History
+  -- and after a beat. One with limit 0 is refused, and is none.
+  abbrev pub historyBy : History → Event → History
+  historyBy w (takes c) = historyAfter w (outcome n (w .store) c) (read k (c .input))
+  historyBy w (beats limit) =
+      record { store = leftBy n (w .store) (beats limit); arrived = w .arrived; slot = w .slot; othersSince = w .othersSince; beatsSince = cond (eqb limit 0) (w .beatsSince) (limit ∷ w .beatsSince) }
+
+  abbrev pub follow : History → List Event → History
   follow w [] = w
-  follow w (c ∷ cs) = follow (historyAfter w (outcome n (w .store) c) (read k (c .input))) cs
+  follow w (e ∷ es) = follow (historyBy w e) es
 
   -- a claim holds of each call that bears the key while parts are missing, with what was seen before it
-  abbrev pub EachWith : ℕ → (History → Call → (total number start : ℕ) → Type 0) → History → List Call → Type 0
-  EachWith t Claim w calls = (u : List Call) (c : Call) (v : List Call) → calls ≡ u ++ c ∷ v → (total number start : ℕ)
+  abbrev pub EachWith : ℕ → (History → Call → (total number start : ℕ) → Type 0) → History → List Event → Type 0
+  EachWith t Claim w calls = (u : List Event) (c : Call) (v : List Event) → calls ≡ u ++ takes c ∷ v → (total number start : ℕ)
       → read k (c .input) ≡ reading.gives (part K total number start) → complete t (follow w u .arrived) ≡ false → Claim (follow w u) c total number start
 
   module _ (P : List ℕ) (parts : List (List ℕ)) where
     -- Premise: "each call with that key bring one of these parts, in any order, repeats allowed", and between two successive such calls fewer
-    -- than n other keys: "at most two".
-    pub record Fair (w : History) (c : Call) (total number start : ℕ) : Type 0 where
+    -- than n other keys, "at most two", and beats that are in time (`Timely`, below).
+    pub record Fair (Timely : List ℕ → Type 0) (w : History) (c : Call) (total number start : ℕ) : Type 0 where
       pub counted : total ≡ length parts
       pub brought : drop start (octetsOf (c .input)) ≡ getD parts (number - 1) []
       pub fewOthers : (w .arrived ≡ [] → ⊥) → length (w .othersSince) < n
+      pub inTime : (w .arrived ≡ [] → ⊥) → Timely (w .beatsSince)
 
     -- Conclusion, r being the record that is left. If the number had come before: "held already" with the slot of the first answer, cells and
     -- output as they were. If parts are still missing: "kept", the part's octets at the start of its cell. If it was the last missing part:
@@ -94,7 +113,7 @@ module _ (n : ℕ) (k : Kind) (K : Key) where
           → outcome n (w .store) c ≡ after (packet (length P)) r (w .store .cells) (P ++ drop (length P) (c .output)) → Served w c total number start
 
     -- A well-formed packet of the record's kind, cut into parts; any calls from a fresh record, after which the key is not held; then fair ones.
-    pub record Start (cells : List ℕ) (earlier calls : List Call) : Type 0 where
+    pub record Start (Timely : List ℕ → Type 0) (cells : List ℕ) (earlier calls : List Event) : Type 0 where
       pub formed : wellFormed k P ≡ true
       pub cut : Cut K P parts
       pub two : 2 ≤ length parts
@@ -102,19 +121,19 @@ module _ (n : ℕ) (k : Kind) (K : Key) where
       pub before : Each Proper earlier
       pub proper : Each Proper calls
       pub lacks : Lacks n (run n (fresh n k cells) earlier .rec .slots) K
-      pub fair : EachWith (length parts) Fair (begin n k cells earlier) calls
+      pub fair : EachWith (length parts) (Fair Timely) (begin n k cells earlier) calls
 
     -- THE WAKE WINDOW: "then no such call is refused, and the one that brings the last missing part hands out exactly that packet"
-    abbrev pub WakeWindow : Type 0
-    WakeWindow = (cells : List ℕ) (earlier calls : List Call) → Start cells earlier calls → EachWith (length parts) Served (begin n k cells earlier) calls
+    abbrev pub WakeWindow : (Timely : List ℕ → Type 0) → Type 0
+    WakeWindow Timely = (cells : List ℕ) (earlier calls : List Event) → Start Timely cells earlier calls → EachWith (length parts) Served (begin n k cells earlier) calls
 
     -- If all parts are among the calls, "the one that brings the last missing part" is there: its number had not come, and with it all have.
-    pub data Comes (w : History) (calls : List Call) : Type 0 where
-      comes : (u : List Call) (c : Call) (v : List Call) (number start : ℕ) (r : Record) → calls ≡ u ++ c ∷ v
+    pub data Comes (w : History) (calls : List Event) : Type 0 where
+      comes : (u : List Event) (c : Call) (v : List Event) (number start : ℕ) (r : Record) → calls ≡ u ++ takes c ∷ v
           → read k (c .input) ≡ reading.gives (part K (length parts) number start) → elem number (follow w u .arrived) ≡ false
           → complete (length parts) (add number (follow w u .arrived)) ≡ true → Lacks n (r .slots) K
           → outcome n (follow w u .store) c ≡ after (packet (length P)) r (follow w u .store .cells) (P ++ drop (length P) (c .output)) → Comes w calls
 
-    abbrev pub PacketComes : Type 0
-    PacketComes = (cells : List ℕ) (earlier calls : List Call) → Start cells earlier calls
+    abbrev pub PacketComes : (Timely : List ℕ → Type 0) → Type 0
+    PacketComes Timely = (cells : List ℕ) (earlier calls : List Event) → Start Timely cells earlier calls
         → complete (length parts) (follow (begin n k cells earlier) calls .arrived) ≡ true → Comes (begin n k cells earlier) calls
