@@ -10,6 +10,7 @@ use Rattle.demands.proofs.Orders as orders
 use Rattle.demands.proofs.Twice as twice
 use Rattle.demands.proofs.RoundTrips as trips
 use Rattle.demands.proofs.Checked as checked
+use Rattle.demands.proofs.Silence as silence
 use Rattle.demands.proofs.SplitTaken as split
 use Rattle.demands.proofs.Delivery as delivery
 use Rattle.demands.proofs.Reports as reports
@@ -17,6 +18,7 @@ use Rattle.demands.proofs.Reports as reports
 pub demand-1 : Demand1
 demand-1 = record {
   taking = refusing.taking-refused;
+  beat = refusing.beat-refused;
   parsing = refusing.parsing-refused;
   building = refusing.building-refused;
   checksum-octets = refusing.checksum-refused;
@@ -74,4 +76,6 @@ demand-3 n good = record {
   always-formed = λ k. calls.always-formed n good k (wake.admits k);
   no-key-twice = λ k. calls.no-key-twice n good k (wake.admits k);
   never-displaced = crowding.never-displaced n good;
+  beating = silence.beating n;
+  silent-given-up = silence.silent-given-up n good;
 }

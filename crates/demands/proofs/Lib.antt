@@ -19,5 +19,6 @@ pub mod SplitTaken
 pub mod Written
 pub mod Delivery
 pub mod Reached
+pub mod Silence
 pub mod Reports
 pub mod Demands

@@ -56,7 +56,7 @@ octets-of l e i = go (ltb i (length l)) refl
     go true f = ltb-true (getD l i 0) 256 (all-at (length l) (λ i. ltb (getD l i 0) 256) e i (ltb-true i (length l) f))
     go false f = let z : getD l i 0 ≡ 0 = List·getD-eq-default l 0 {n = i} (ltb-false i (length l) f) in omega arith
 
-same-part : {K₁ K₂ : Key} {t₁ t₂ m₁ m₂ s₁ s₂ : ℕ} → reading.gives (part K₁ t₁ m₁ s₁) ≡ reading.gives (part K₂ t₂ m₂ s₂) → (K₁ ≡ K₂) × (t₁ ≡ t₂) × (m₁ ≡ m₂) × (s₁ ≡ s₂)
+pub same-part : {K₁ K₂ : Key} {t₁ t₂ m₁ m₂ s₁ s₂ : ℕ} → reading.gives (part K₁ t₁ m₁ s₁) ≡ reading.gives (part K₂ t₂ m₂ s₂) → (K₁ ≡ K₂) × (t₁ ≡ t₂) × (m₁ ≡ m₂) × (s₁ ≡ s₂)
 same-part e = (cc, cc, cc, cc)
 
 -- two runs, one after the other
@@ -224,19 +224,19 @@ module _ (n : ℕ) (good : Slots n) (b : ℕ) where
   unfolding allBelow
   proper-other sender = proper sender _ refl
 
-  proper-first : ProperCall (first b)
+  pub proper-first : ProperCall (first b)
   unfolding allBelow
   proper-first = proper 1 _ refl
 
-  proper-second : ProperCall (second b)
+  pub proper-second : ProperCall (second b)
   unfolding allBelow
   proper-second = proper 1 _ refl
 
-  reads-first : read Command (first b .input) ≡ reading.gives (part key 2 1 8)
+  pub reads-first : read Command (first b .input) ≡ reading.gives (part key 2 1 8)
   unfolding elementsAfter summary judged readMessage
   reads-first = refl
 
-  reads-second : read Command (second b .input) ≡ reading.gives (part key 2 2 6)
+  pub reads-second : read Command (second b .input) ≡ reading.gives (part key 2 2 6)
   unfolding elementsAfter summary judged readMessage
   reads-second = refl
 
@@ -354,7 +354,7 @@ module _ (n : ℕ) (good : Slots n) (b : ℕ) where
       by-reading (reading.gives (single start)) = refl
       by-reading (reading.gives (part X total number start)) = by-key (sameKey X key) _ _ refl refl
 
-  store-run : (calls : List Event) (q : History) → follow n Command key q calls .store ≡ run n (q .store) calls
+  pub store-run : (calls : List Event) (q : History) → follow n Command key q calls .store ≡ run n (q .store) calls
   store-run [] q = refl
   store-run (takes c ∷ cs) q = store-run cs (seen q c) ∙ ap (λ (st : Store). run n st cs) (store-seen q c)
   store-run (beats limit ∷ cs) q = store-run cs (historyBy n Command key q (beats limit))

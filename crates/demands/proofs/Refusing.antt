@@ -24,6 +24,8 @@ use Rattle.joined.specs.Fronts.{packetIn}
 use Rattle.slots.specs.Slots.{isSlotNumber, slotAt, freed, withSlots, freshRecord, beside}
 use Rattle.formed.specs.Formed.{slotsFormed, recordFormed}
 use Rattle.formed.specs.Laws.{Formed, number-tells, number-told, formed-tells, fresh-formed, formed-told}
+use Rattle.types.specs.declared.Record.{Record}
+use Rattle.beats.specs.Beats.{beating, leavesBeat, beat}
 use Rattle.series.specs.Cells.{cellsSize, joinedOctets}
 use Rattle.series.specs.Taking.{State, state, After, kept, heldAlready, packet, refusedBy, Step, handOut, acted, step, takePart, taken, unfit, refuse}
 use Rattle.series.specs.CaseLaws.{Case, other-total, other-octets, held-so, last, more, takes-free, displaces, case-of}
@@ -34,7 +36,7 @@ use Rattle.counters.specs.Counters.{unfitCounters, judgedBy, orLeaves, judgeCou
 use Rattle.types.specs.declared.Outstanding.{Outstanding}
 use Rattle.gateway.specs.Gateway as gateway
 use Rattle.report.specs.Reporting as report
-use Rattle.demands.specs.Refusing.{Leaves, unaltered, dropped, TakingRefused, BuildingRefused, ChecksumRefused, WritingRefused, PageRefused, ReportRefused, JudgingRefused, SendingRefused, ClosingRefused, ParsingRefused, AnnouncingRefused, UnfitRefused, MakingRefused, SalvagingRefused}
+use Rattle.demands.specs.Refusing.{Leaves, unaltered, dropped, TakingRefused, BuildingRefused, ChecksumRefused, WritingRefused, PageRefused, ReportRefused, JudgingRefused, SendingRefused, ClosingRefused, ParsingRefused, AnnouncingRefused, UnfitRefused, MakingRefused, SalvagingRefused, BeatRefused}
 use Rattle.capture.specs.Captures.{salvaged, mostCapture, salvaging}
 use Rattle.demands.specs.Runs.{Slots}
 use Rattle.demands.proofs.Calls.{isPage, taking-any}
@@ -100,6 +102,15 @@ module _ (n : ℕ) (s : State) (i : Input) (number : ℕ) where
 
 pub taking-refused : (n : ℕ) → TakingRefused n
 taking-refused n s i number = call-left n s i number
+
+-- ---- the beat
+beat-left : (r : Record) (limit number : ℕ) (o : outcome.Outcome ℕ) → leavesBeat r limit o .answer ≡ outcome.refused number → leavesBeat r limit o .rec ≡ r
+beat-left r limit number (outcome.refused m) e = refl
+beat-left r limit number (outcome.gives m) e = let z : _≡_ {A = ℕ} 0 1 = cc in absurd (omega arith)
+
+pub beat-refused : (n : ℕ) → BeatRefused n
+unfolding beat
+beat-refused n r limit number = beat-left r limit number (beating n r limit)
 
 -- ---- writing to a lent buffer
 written-left : (o : outcome.Outcome (List ℕ)) (buffer : List ℕ) (number : ℕ) → outcome.writes o buffer .0 ≡ outcome.refused number → outcome.writes o buffer .1 ≡ buffer
@@ -214,11 +225,12 @@ unfit-into : (size : ℕ) (o : outcome.Outcome (List ℕ)) (buffer : List ℕ) �
 unfit-into size o buffer ne = rw (ne-eqb (length buffer) size ne)
 
 pub unfit-refused : (n : ℕ) → UnfitRefused n
-unfolding built checksummed split.writing split.writeMessage split.writingPage split.writePage report.reporting report.writeReport
+unfolding beat built checksummed split.writing split.writeMessage split.writingPage split.writePage report.reporting report.writeReport
 unfit-refused n = record {
   taking-cells = λ s i ne. unfit-taken n s i (rw (ne-eqb (length (s .cells)) (cellsSize n) ne));
   taking-output = λ s i ne. unfit-taken n s i (rw (ne-eqb (length (s .output)) mostOctets ne, or-true (not (eqb (length (s .cells)) (cellsSize n)))));
   taking-record = λ s i e. unfit-taken n s i (rw (e, or-true (not (eqb (length (s .cells)) (cellsSize n)) || not (eqb (length (s .output)) mostOctets))));
+  beating = λ r limit f. rw f;
   building = λ k x buffer. unfit-into mostOctets (building k x) buffer;
   checksum-octets = λ k c p buffer. unfit-into mostChecksum (checksumOctets k c p) buffer;
   writing-user-data = λ k width reference p which buffer ne. rw (ne-eqb (length buffer) mostUserData ne);

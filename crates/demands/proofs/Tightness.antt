@@ -48,6 +48,9 @@ use Rattle.types.specs.declared.Making.{Making}
 use Rattle.types.specs.declared.Making.the-variants as making
 use Rattle.types.specs.declared.Made.{Made}
 use Rattle.types.specs.declared.Taken.{Taken}
+use Rattle.types.specs.declared.Beating as beating
+use Rattle.types.specs.declared.Beaten.{Beaten}
+use Rattle.beats.specs.Beats.{AfterBeat, toldBeating}
 use Rattle.series.specs.Taking as taking
 use Rattle.types.specs.declared.Judgement.{Judgement}
 use Rattle.types.specs.declared.Judgement.the-variants as judgement
@@ -68,7 +71,7 @@ use Rattle.types.specs.declared.Outgoing.the-variants as outgoing
 use Rattle.types.specs.declared.Announcing.{Announcing}
 use Rattle.types.specs.declared.Announcing.the-variants as announcing
 use Rattle.report.specs.Reporting as report
-use Rattle.demands.specs.Tightness.{Tight, toldBuilt, toldMade, toldPart, toldReport, toldHanded, toldTaken, toldAssessed, toldSent, toldCame, Tellings, PlainPromises, One, Promises}
+use Rattle.demands.specs.Tightness.{Tight, toldBuilt, toldMade, toldPart, toldReport, toldHanded, toldTaken, toldAssessed, toldSent, toldCame, Tellings, PlainPromises, One, Promises, toldBeaten}
 use Rattle.capture.specs.Captures.{nextRun, recordIn}
 
 -- what can be read back is told of one outcome only
@@ -279,6 +282,23 @@ taken-back : (r : Taken × (List ℕ × List ℕ)) → takenOf (toldTaken r) ≡
 unfolding takenOf
 taken-back (r, (cells, output)) = ap (λ (x : Answer). (record { answer = x; «record» = r .«record» }, (cells, output))) (answer-back (r .answer))
 
+-- ---- what a beat leaves
+beatingOf : Outcome ℕ → beating.Beating
+beatingOf (refused n) = beating.the-variants.Refused (refusalOf n)
+beatingOf (gives m) = beating.the-variants.Dropped m
+
+beating-back : (r : beating.Beating) → beatingOf (toldBeating r) ≡ r
+unfolding beatingOf
+beating-back (beating.the-variants.Dropped m) = refl
+beating-back (beating.the-variants.Refused r) = ap beating.the-variants.Refused (refusal-back r)
+
+beatenOf : AfterBeat → Beaten
+beatenOf a = record { answer = beatingOf (a .answer); «record» = a .rec }
+
+beaten-back : (r : Beaten) → beatenOf (toldBeaten r) ≡ r
+unfolding beatenOf
+beaten-back r = ap (λ (x : beating.Beating). record { answer = x; «record» = r .record }) (beating-back (r .answer))
+
 -- ---- what judging a counter leaves
 judgementOf : Outcome ℕ → Judgement
 judgementOf (refused n) = judgement.Refused (refusalOf n)
@@ -379,6 +399,7 @@ tellings = record {
   write-message-and-page = tight toldPart partOf part-back;
   write-report = tight toldReport reportOf report-back;
   response-announces = tight report.toldAnnouncing announcingOf announcing-back;
+  beat = tight toldBeaten beatenOf beaten-back;
   judge-counter = tight toldAssessed assessedOf assessed-back;
   command-sent = tight toldSent sentOf sent-back;
   response-came = tight toldCame cameOf came-back;
@@ -435,6 +456,7 @@ promises = record {
   write-report = λ spi capacity edition p out. tellings .write-report _;
   response-announces = λ p. tellings .response-announces _;
   no-counters = plain noCounters;
+  beat = λ x limit. tellings .beat _;
   judge-counter = λ c p. tellings .judge-counter _;
   no-commands = plain gateway.noCommands;
   command-sent = λ t sender tar cntr. tellings .command-sent _;

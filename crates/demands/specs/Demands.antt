@@ -5,7 +5,7 @@ use mathlib.Core.List.{List}
 use Rattle.types.specs.declared.Kind.{Kind}
 use Rattle.packet.specs.Packets.{Fields}
 use Rattle.types.specs.declared.Key.{Key}
-use Rattle.demands.specs.Refusing.{TakingRefused, ParsingRefused, BuildingRefused, ChecksumRefused, WritingRefused, PageRefused, ReportRefused, JudgingRefused, SendingRefused, ClosingRefused, AnnouncingRefused, UnfitRefused, MakingRefused, SalvagingRefused}
+use Rattle.demands.specs.Refusing.{TakingRefused, ParsingRefused, BuildingRefused, ChecksumRefused, WritingRefused, PageRefused, ReportRefused, JudgingRefused, SendingRefused, ClosingRefused, AnnouncingRefused, UnfitRefused, MakingRefused, SalvagingRefused, BeatRefused}
 use Rattle.demands.specs.Runs.{Slots}
 use Rattle.demands.specs.Orders.{OrderFree}
 use Rattle.demands.specs.Twice.{ReadAsWithout, TakenAsWithout, LastReplaces}
@@ -14,6 +14,7 @@ use Rattle.demands.specs.Checked.{CheckBits, StillCarried}
 use Rattle.demands.specs.Wake.{FewerThanLeast, InTime, WakeWindow, PacketComes}
 use Rattle.demands.specs.Always.{AlwaysFormed, NoKeyTwice}
 use Rattle.demands.specs.Crowding.{NeverDisplaced}
+use Rattle.demands.specs.Silence.{Beating, SilentGivenUp}
 use Rattle.demands.specs.SplitTaken.{MessagesArrive, PagesArrive}
 use Rattle.demands.specs.Delivery.{MessagesDelivered, PagesDelivered, MessagesWritten, PagesWritten}
 use Rattle.demands.specs.Reports.{ReportRefusals, NoneLost, NoneLostEither, EditionsAlike, EitherAccepted}
@@ -23,6 +24,7 @@ use Rattle.demands.specs.Reports.{ReportRefusals, NoneLost, NoneLostEith
 -- record", with one exception. What is said of taking holds for every number, also of a record that the library could not have made.
 pub record Demand1 : Type 0 where
   pub taking : (n : ℕ) → TakingRefused n
+  pub beat : (n : ℕ) → BeatRefused n
   pub parsing : ParsingRefused
   pub building : BuildingRefused
   pub checksum-octets : ChecksumRefused
@@ -72,7 +74,8 @@ pub record Demand2 : Type 0 where
   pub either-accepted : EitherAccepted
 
 -- 3. The wake window with n slots, for either kind, every key, every packet and every cut of it: "at most n − 1 other keys" (02 [5]), "fewer beats
--- than the least limit used" (02 [6]), and the same with the sharper premise that the i-th beat has a limit above i; and "at no moment does one key occupy two slots". No series is displaced while at most n keys are unfinished.
+-- than the least limit used" (02 [6]), and the same with the sharper premise that the i-th beat has a limit above i; and "at no moment does one key occupy two slots". No series is displaced while at most n keys are
+-- unfinished. A beat gives up what is dead: after as many beats as the limit and no call, no key is held.
 pub record Demand3 (n : ℕ) : Type 0 where
   pub wake-window : (k : Kind) (K : Key) (P : List ℕ) (parts : List (List ℕ)) → WakeWindow n k K P parts FewerThanLeast
   pub packet-comes : (k : Kind) (K : Key) (P : List ℕ) (parts : List (List ℕ)) → PacketComes n k K P parts FewerThanLeast
@@ -81,3 +84,5 @@ pub record Demand3 (n : ℕ) : Type 0 where
   pub always-formed : (k : Kind) → AlwaysFormed n k
   pub no-key-twice : (k : Kind) → NoKeyTwice n k
   pub never-displaced : (k : Kind) → NeverDisplaced n k
+  pub beating : Beating n
+  pub silent-given-up : SilentGivenUp n

@@ -10,6 +10,7 @@ pub mod Crowding
 pub mod Refusing
 pub mod Tightness
 pub mod Reached
+pub mod Silence
 pub mod RoundTrips
 pub mod Checked
 pub mod Counters

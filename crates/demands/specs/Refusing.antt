@@ -18,6 +18,8 @@ use Rattle.arrival.specs.Message.{mostUserData}
 use Rattle.arrival.specs.Page.{pageOctets}
 use Rattle.slots.specs.Slots.{slotAt, heldAt, freed, withSlots, freshRecord, beside, making}
 use Rattle.formed.specs.Formed.{recordFormed}
+use Rattle.types.specs.declared.Record.{Record}
+use Rattle.beats.specs.Beats.{beaten, beat}
 use Rattle.series.specs.Cells.{cellsSize}
 use Rattle.series.specs.Taking.{State, refusedBy, state, refuse, completes}
 use Rattle.series.specs.CaseLaws.{Bears}
@@ -57,6 +59,11 @@ abbrev pub TakingRefused : ℕ → Type 0
 TakingRefused n = (s : State) (i : Input) (number : ℕ) → takeInput n s i .answer ≡ refusedBy number → Leaves n s i number (takeInput n s i .state)
 
 -- ---- building, checksum octets, writing parts, pages and reports, salvaging: the lent buffer stays as it was
+-- ---- the beat: the record stays as it was
+abbrev pub BeatRefused : ℕ → Type 0
+BeatRefused n = (r : Record) (limit number : ℕ) → beat n r limit .answer ≡ outcome.refused number → beat n r limit .rec ≡ r
+
+-- ---- building, checksum octets, writing parts, pages and reports: the lent buffer stays as it was
 abbrev pub BuildingRefused : Type 0
 BuildingRefused = (k : Kind) (x : Fields) (buffer : List ℕ) (number : ℕ) → built k x buffer .0 ≡ outcome.refused number → built k x buffer .1 ≡ buffer
 
@@ -114,6 +121,7 @@ pub record UnfitRefused (n : ℕ) : Type 0 where
   pub taking-cells : (s : State) (i : Input) → (length (s .cells) ≡ cellsSize n → ⊥) → takeInput n s i ≡ refuse 1 s
   pub taking-output : (s : State) (i : Input) → (length (s .output) ≡ mostOctets → ⊥) → takeInput n s i ≡ refuse 1 s
   pub taking-record : (s : State) (i : Input) → recordFormed n (s .rec) ≡ false → takeInput n s i ≡ refuse 1 s
+  pub beating : (r : Record) (limit : ℕ) → recordFormed n r ≡ false → beat n r limit ≡ beaten (outcome.refused 1) r
   pub building : (k : Kind) (x : Fields) (buffer : List ℕ) → (length buffer ≡ mostOctets → ⊥) → built k x buffer ≡ lent (outcome.refused 1) buffer
   pub checksum-octets : (k : Kind) (c : Bool) (p buffer : List ℕ) → (length buffer ≡ mostChecksum → ⊥)
       → checksummed k c p buffer ≡ lent (outcome.refused 1) buffer

@@ -37,6 +37,8 @@ use Rattle.slots.specs.Slots.{defaultSlots, freshRecord, Beside, beside, toldMa
 use Rattle.formed.specs.Formed.{recordFormed}
 use Rattle.types.specs.declared.Made.{Made}
 use Rattle.types.specs.declared.Taken.{Taken}
+use Rattle.types.specs.declared.Beaten.{Beaten}
+use Rattle.beats.specs.Beats as beats
 use Rattle.series.specs.Taking as taking
 use Rattle.types.specs.declared.WrittenPart.{WrittenPart}
 use Rattle.split.specs.Splitting as split
@@ -82,6 +84,10 @@ toldMade r = beside (toldMaking (r .answer)) (r .record)
 abbrev pub toldTaken : Taken × (List ℕ × List ℕ) → taking.After
 toldTaken (r, (cells, output)) = taking.after (taking.toldAnswer (r .answer)) (r .record) cells output
 
+-- an answer of a beat with the record
+abbrev pub toldBeaten : Beaten → beats.AfterBeat
+toldBeaten r = beats.beaten (beats.toldBeating (r .answer)) (r .record)
+
 -- an answer with the table of counters
 abbrev pub toldAssessed : JudgedCounter → counters.Assessed
 toldAssessed r = counters.assessed (counters.toldJudgement (r .answer)) (r .counters)
@@ -108,6 +114,8 @@ pub record Tellings : Type 0 where
   pub fresh-record-with : Tight toldMade
   -- take_message, take_page
   pub take-message-and-page : Tight toldTaken
+  -- beat
+  pub beat : Tight toldBeaten
   -- write_message, write_page
   pub write-message-and-page : Tight toldPart
   -- write_report
@@ -183,6 +191,7 @@ pub record Promises : Type 0 where
       → One (λ (r : Taken × (List ℕ × List ℕ)). toldTaken r ≡ taking.takeMessage (x .count) (taking.state x cells out) sender ud)
   pub take-page : (x : Record) (page cells out : List ℕ)
       → One (λ (r : Taken × (List ℕ × List ℕ)). toldTaken r ≡ taking.takePage (x .count) (taking.state x cells out) page)
+  pub beat : (x : Record) (limit : ℕ) → One (λ (r : Beaten). toldBeaten r ≡ beats.beat (x .count) x limit)
   -- splitting
   pub write-message : (k : Kind) (width reference number : ℕ) (p out : List ℕ)
       → One (λ (r : WrittenPart × List ℕ). toldPart r ≡ split.writeMessage k width reference p number out)

@@ -1,0 +1,78 @@
+-- A series whose sender went silent is given up (02 [6], "Give up what is dead").
+use Prim.Native.Nat.{ℕ, zero, suc, _-_, _≤_, _<_}
+use mathlib.Core.Path.{_≡_}
+use mathlib.Core.Bool.{true, false}
+use mathlib.Core.List.{List, [], _∷_, _++_}
+use lib.ListN.{length}
+use Rattle.types.specs.declared.Kind.{Kind}
+use Rattle.types.specs.declared.Kind.the-variants.{Command}
+use Rattle.types.specs.Refusals.{refused, gives}
+use Rattle.types.specs.declared.Key.{Key}
+use Rattle.types.specs.declared.Record.{Record}
+use Rattle.arrival.specs.Arrivals.{part}
+use Rattle.slots.specs.Slots.{slotAt, freeSlot, atCount}
+use Rattle.formed.specs.Formed.{recordFormed}
+use Rattle.beats.specs.Beats.{droppedBy, beaten, beat}
+use Rattle.series.specs.Cells.{cellsSize}
+use Rattle.series.specs.Taking.{kept, packet}
+use Rattle.series.specs.CaseLaws.{Lacks}
+use Rattle.series.specs.Calls.{read}
+use Rattle.demands.specs.Examples.{M}
+use Rattle.demands.specs.Runs.{Call, Event, takes, beats, ProperCall, Proper, Each, Store, fresh, outcome, run}
+use Rattle.demands.specs.Wake.{FewerThanLeast, Start}
+use Rattle.demands.specs.Reached.{key, halves, first, second, cells}
+
+-- ---- one beat
+-- "1 for a malformed record, then 18 for limit 0": the record comes back as it was
+pub record BeatRefuses (n : ℕ) (r : Record) (limit : ℕ) : Type 0 where
+  pub malformed : recordFormed n r ≡ false → beat n r limit ≡ beaten (refused 1) r
+  pub no-limit : recordFormed n r ≡ true → limit ≡ 0 → beat n r limit ≡ beaten (refused 18) r
+
+-- Every other beat is answered with how many series it drops. A series whose count reaches the limit is dropped, each other one is a beat older and
+-- keeps its rank, a free slot stays free; whatever is dropped is less recent than all that stays; the record stays well formed.
+pub record BeatDoes (n : ℕ) (r : Record) (limit : ℕ) : Type 0 where
+  pub answered : beat n r limit .answer ≡ gives (droppedBy limit (r .slots))
+  pub drops : (i : ℕ) → 0 < slotAt (r .slots) i .rank → limit ≤ suc (slotAt (r .slots) i .beats) → slotAt (beat n r limit .rec .slots) i ≡ freeSlot
+  pub stays : (i : ℕ) → 0 < slotAt (r .slots) i .rank → suc (slotAt (r .slots) i .beats) < limit
+      → slotAt (beat n r limit .rec .slots) i ≡ atCount (suc (slotAt (r .slots) i .beats)) (slotAt (r .slots) i)
+  pub free : (i : ℕ) → slotAt (r .slots) i .rank ≡ 0 → slotAt (beat n r limit .rec .slots) i ≡ slotAt (r .slots) i
+  pub least-recent : (i j : ℕ) → i < n → j < n → 0 < slotAt (r .slots) i .rank → limit ≤ suc (slotAt (r .slots) i .beats)
+      → 0 < slotAt (r .slots) j .rank → suc (slotAt (r .slots) j .beats) < limit → slotAt (r .slots) j .rank < slotAt (r .slots) i .rank
+  pub formed : recordFormed n (beat n r limit .rec) ≡ true
+
+abbrev pub Beating : ℕ → Type 0
+Beating n =
+    (r : Record) (limit : ℕ) → BeatRefuses n r limit × (recordFormed n r ≡ true → 0 < limit → limit < 256 → BeatDoes n r limit)
+
+-- ---- silence
+-- m beats in a row, with one limit
+abbrev pub silence : ℕ → ℕ → List Event
+silence limit zero = []
+silence limit (suc m) = beats limit ∷ silence limit m
+
+-- After as many beats as the limit says and no call between, from any store that calls and beats from a fresh record lead to, no key is held; "a
+-- reused reference" with any total is taken then, in the lowest slot, and displaces nothing.
+pub record GivenUp (n : ℕ) (k : Kind) (st : Store) (limit : ℕ) : Type 0 where
+  pub gone : (K : Key) → Lacks n (run n st (silence limit limit) .rec .slots) K
+  pub taken-anew : (c : Call) → ProperCall c → (K : Key) (total number start : ℕ) → read k (c .input) ≡ gives (part K total number start)
+      → outcome n (run n st (silence limit limit)) c .answer ≡ kept 0 false
+
+abbrev pub SilentGivenUp : ℕ → Type 0
+SilentGivenUp n =
+    (k : Kind) (cells : List ℕ) (earlier : List Event) → length cells ≡ cellsSize n → Each Proper earlier
+    → (limit : ℕ) → 0 < limit → limit < 256 → GivenUp n k (run n (fresh n k cells) earlier) limit
+
+-- ---- the number is the right one, for each limit
+module _ (n b limit : ℕ) where
+  -- with one beat fewer than the limit between the two parts, the premises of the wake window hold as 02 words them, and the packet comes
+  pub record MetInTime : Type 0 where
+    pub start : Start n Command key M halves FewerThanLeast (cells n b) [] (takes (first b) ∷ silence limit (limit - 1) ++ takes (second b) ∷ [])
+    pub comes : outcome n (run n (fresh n Command (cells n b)) (takes (first b) ∷ silence limit (limit - 1))) (second b) .answer ≡ packet 16
+
+  -- with as many as the limit the first part is gone, and the second opens a series anew
+  pub record MissedTooLate : Type 0 where
+    pub lost : Lacks n (run n (fresh n Command (cells n b)) (takes (first b) ∷ silence limit limit) .rec .slots) key
+    pub kept-anew : outcome n (run n (fresh n Command (cells n b)) (takes (first b) ∷ silence limit limit)) (second b) .answer ≡ kept 0 false
+
+abbrev pub OnTheLimit : ℕ → Type 0
+OnTheLimit n = (b limit : ℕ) → 0 < limit → limit < 256 → MetInTime n b limit × MissedTooLate n b limit
