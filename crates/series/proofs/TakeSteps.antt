@@ -37,7 +37,7 @@ use Rattle.series.specs.declared.take.Step.the-variants.{Refuses, Repeat
 use Rattle.slots.specs.Below.{allBelow}
 use Rattle.slots.specs.BelowLaws.{fault-from, fault-more, fault-through, all-up-to}
 use Rattle.slots.specs.Found.{newSeatIn, seatOf, seat-found, seat-not-found, withPartIn, with-part-in}
-use Rattle.slots.specs.Slots.{slotAt, isFree, findIn, opened, freeSlot, heldAt, lengthAt, withPart, toFront, freed, withSlots, slotsIn}
+use Rattle.slots.specs.Slots.{slotAt, isFree, findIn, opened, freeSlot, heldAt, lengthAt, withPart, atFront, toFront, freed, withSlots, slotsIn}
 use Rattle.slots.specs.Order.{replaced, front-in, freed-in}
 use Rattle.formed.specs.Formed.{recordFormed}
 use Rattle.series.specs.Cells.{cellsSize, cellAt, cellPart, joinedOctets}
@@ -107,6 +107,10 @@ part-kept i number octets cells a n x y c room e h =
 pub slot-emptied : (a : response.Answer) (i : ℕ) (x : Slot) → x ≡ freeSlot
     → record { answer = a; moves = true; front = false; slot = i; entry = x } ≡ emptied a i
 slot-emptied a i x e = rw e
+
+pub slot-fronted : (a : response.Answer) (i : ℕ) (x y : Slot) → y ≡ atFront x
+    → record { answer = a; moves = true; front = true; slot = i; entry = y } ≡ fronted a i x
+slot-fronted a i x y e = rw e
 
 -- what becomes of a record
 module _ (r : Record) (k : Kind) (i : ℕ) (y : Slot) (holds : Holds r k i y) (c : Change) (a : response.Answer) where
@@ -359,6 +363,7 @@ pub ruleset actSteps = (
   needs,
   part-kept,
   slot-emptied,
+  slot-fronted,
   answer-packet,
   answer-none,
   single-answer,

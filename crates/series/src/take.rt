@@ -111,13 +111,11 @@ fn unchanged(answer: Answer) -> Change
     }
 }
 
-// Slot i comes to the front, as x, and is touched: no beat has come since.
+// Slot i comes to the front, as x.
 fn to_front(answer: Answer, i: usize, x: Slot) -> Change
     ensures { λ r. ⌜ r ≡ fronted answer i x ⌝ }
 {
-    let mut y = x;
-    y.rank = 1;
-    y.beats = 0;
+    let y = order::at_front(x);
     Change {
         answer: answer,
         moves: true,

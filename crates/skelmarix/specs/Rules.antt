@@ -1,12 +1,16 @@
 -- The rules that a user's contract cites, under one name, and nothing of its own: a number of two octets, the sizes of buffers, a record, a fresh
 -- one, what making one comes to, what taking comes to, what reporting comes to, an empty table of counters, what judging a counter comes to, an empty
 -- table of outstanding commands, what its two calls come to, and what salvaging comes to.
+-- one, what making one comes to, what taking and a beat come to, what reporting comes to, an empty table of counters, what judging a counter comes to, an empty
+-- table of outstanding commands, and what its two calls come to.
 pub use Rattle.octets.specs.Octets.{numberOf}
 pub use Rattle.packet.specs.Packets.{mostOctets}
 pub use Rattle.series.specs.Cells.{cellsSize}
 pub use Rattle.slots.specs.Slots.{mostSlots, defaultSlots, isSlotNumber, slotAt, freshRecord, withSlots, Beside, beside, toldMaking, making}
 pub use Rattle.series.specs.Taking.{State, state, Answer, After, after, toldAnswer}
 unfoldable pub use Rattle.series.specs.Taking.{takeMessage, takePage}
+pub use Rattle.beats.specs.Beats.{AfterBeat, beaten, toldBeating}
+unfoldable pub use Rattle.beats.specs.Beats.{beat}
 pub use Rattle.report.specs.Reporting.{Going, nothingGoes, inReport, announced, submitted, Reported, reported, toldOutgoing, announcesAnother, toldAnnouncing}
 unfoldable pub use Rattle.report.specs.Reporting.{writeReport, responseAnnounces}
 pub use Rattle.counters.specs.Counters.{noCounters, Assessed, assessed, toldJudgement}

@@ -70,13 +70,16 @@ pub use types::Key;
 pub use types::MessageIdentifier;
 pub use types::SerialNumber;
 
-// Series: the record, and taking what arrives.
+// Series: the record, taking what arrives, and the beat, which gives up what was silent too long.
+pub use beats::beat;
 pub use formed::record_formed;
 pub use series::take::take_message;
 pub use series::take::take_page;
 pub use slots::find::fresh as fresh_record;
 pub use slots::find::fresh_with as fresh_record_with;
 pub use types::Answer;
+pub use types::Beaten;
+pub use types::Beating;
 pub use types::Made;
 pub use types::Making;
 pub use types::Record;

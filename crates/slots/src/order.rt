@@ -4,6 +4,7 @@ use crate::find::slots_in;
 use types::Record;
 use types::Slot;
 ghost use mathlib.Core.Path.{_≡_};
+ghost use Rattle.slots.specs.Slots.{atFront};
 ghost use Rattle.slots.specs.Order.{rankAfter, replaced};
 
 // Rank q after a slot of rank r has come to the front, or was freed. No rank is counted past 255.
@@ -17,6 +18,16 @@ fn rank_after(front: bool, r: u8, q: u8) -> u8
         return q - 1;
     }
     q
+}
+
+// The slot as it is when it has come to the front: the most recent, and no beat has come since.
+pub fn at_front(x: Slot) -> Slot
+    ensures { λ r. ⌜ r ≡ atFront x ⌝ }
+{
+    let mut y = x;
+    y.rank = 1;
+    y.beats = 0;
+    y
 }
 
 // The record with x in slot i, and the other slots at the ranks that they have once slot i has come to the front, or was freed. If there
