@@ -1,8 +1,6 @@
 -- The rules that a user's contract cites, under one name, and nothing of its own: a number of two octets, the sizes of buffers, a record, a fresh
--- one, what making one comes to, what taking comes to, what reporting comes to, an empty table of counters, what judging a counter comes to, an empty
--- table of outstanding commands, what its two calls come to, and what salvaging comes to.
 -- one, what making one comes to, what taking and a beat come to, what reporting comes to, an empty table of counters, what judging a counter comes to, an empty
--- table of outstanding commands, and what its two calls come to.
+-- table of outstanding commands, what its two calls come to, and what salvaging comes to.
 pub use Rattle.octets.specs.Octets.{numberOf}
 pub use Rattle.packet.specs.Packets.{mostOctets}
 pub use Rattle.series.specs.Cells.{cellsSize}
