@@ -58,12 +58,11 @@ pub data Leaves (n : ℕ) (s : State) (i : Input) (number : ℕ) : State → Typ
 abbrev pub TakingRefused : ℕ → Type 0
 TakingRefused n = (s : State) (i : Input) (number : ℕ) → takeInput n s i .answer ≡ refusedBy number → Leaves n s i number (takeInput n s i .state)
 
--- ---- building, checksum octets, writing parts, pages and reports, salvaging: the lent buffer stays as it was
 -- ---- the beat: the record stays as it was
 abbrev pub BeatRefused : ℕ → Type 0
 BeatRefused n = (r : Record) (limit number : ℕ) → beat n r limit .answer ≡ outcome.refused number → beat n r limit .rec ≡ r
 
--- ---- building, checksum octets, writing parts, pages and reports: the lent buffer stays as it was
+-- ---- building, checksum octets, writing parts, pages and reports, salvaging: the lent buffer stays as it was
 abbrev pub BuildingRefused : Type 0
 BuildingRefused = (k : Kind) (x : Fields) (buffer : List ℕ) (number : ℕ) → built k x buffer .0 ≡ outcome.refused number → built k x buffer .1 ≡ buffer
 

@@ -1,5 +1,5 @@
--- Sequences of calls: "from a fresh record, buffers of 01's lengths, record and cells passed back as left" (demand 3). A call takes a message or a
--- page, or it is a beat (02 [6]).
+-- Sequences: "from a fresh record, buffers of 01's lengths, record and cells passed back as left" (demand 3). They are lists of events: an event is
+-- a call that takes a message or a page, or a beat (02 [6]).
 use Prim.Native.Nat.{ℕ, _≤_, _<_}
 use mathlib.Core.Path.{_≡_}
 use mathlib.Core.List.{List, [], _∷_, _++_}

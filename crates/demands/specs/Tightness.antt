@@ -136,7 +136,7 @@ pub record Tellings : Type 0 where
 
 -- Where the promise is that the outcome itself is what the rule says, nothing else can be told of it. So it is of the other calls between
 -- crates: wide, formed, before, least, cipher_bit, ciphered_command, element, nothing, plus, walk, in_range, is_pageless, reference_fits, room,
--- no_front, extended, front_of, opened, free_slot, with_part, same_key, slots_in, seat_of, replaced.
+-- no_front, extended, front_of, opened, free_slot, with_part, same_key, slots_in, seat_of, at_front, replaced.
 abbrev pub PlainPromises : Type 1
 PlainPromises = (Outcome : Type 0) → Tight {Outcome = Outcome} {Paper = Outcome} (λ r. r)
 

@@ -93,7 +93,7 @@ module _ (n : ℕ) (k : Kind) (K : Key) where
 
   module _ (P : List ℕ) (parts : List (List ℕ)) where
     -- Premise: "each call with that key bring one of these parts, in any order, repeats allowed", and between two successive such calls fewer
-    -- than n other keys, "at most two", and beats that are in time (`Timely`, below).
+    -- than n other keys, "at most two", and beats that are in time: `Timely` is one of the two above.
     pub record Fair (Timely : List ℕ → Type 0) (w : History) (c : Call) (total number start : ℕ) : Type 0 where
       pub counted : total ≡ length parts
       pub brought : drop start (octetsOf (c .input)) ≡ getD parts (number - 1) []

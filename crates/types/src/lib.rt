@@ -12,7 +12,7 @@ pub enum Kind {
 pub enum Refusal {
     // 1: a lent buffer of another length than it must have, a record that is not well formed, or a table of commands that says that more than 8
     // entries are in use, or in which two of those are equal. Taking, building, checksum octets, writing, reporting, sending a command, a response
-    // that came, salvaging.
+    // that came, salvaging; the beat.
     BufferOrRecord,
     // 2: user data of more than 140 octets, or a page of other than 88. Taking, reading.
     InputLength,
