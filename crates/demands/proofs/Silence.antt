@@ -1,8 +1,9 @@
--- One beat does what the rule says, slot by slot. With every beat of one limit, each series that is left is a beat older and younger than the
--- limit: after as many beats as the limit there can be none.
+-- One beat does what the rule says, slot by slot. With every beat of a limit, a series that nothing touches is a beat older, and younger than the
+-- limit if it is left: after as many beats as the limit there can be none.
 use Prim.Native.Nat.{ℕ, zero, suc, _+_, _-_, _≤_, _<_}
 use mathlib.Core.Path.{_≡_, refl, sym, ap, _∙_, subst}
-use mathlib.Core.Bool.{Bool, true, false, _||_}
+use mathlib.Core.Bool.{Bool, true, false, not, cond, _&&_, _||_}
+use mathlib.Core.Option.{Option, none, some}
 use mathlib.Core.List.{List, [], _∷_, _++_}
 use native.Mathlib.Omega.{arith}
 use lib.ListN.{length, drop, length-replicate}
@@ -15,27 +16,31 @@ use Rattle.types.specs.Refusals as reading
 use Rattle.types.specs.declared.Key.{Key}
 use Rattle.types.specs.declared.Record.{Record}
 use Rattle.types.specs.declared.Slot.{Slot}
-use Rattle.arrival.specs.Arrivals.{part}
+use Rattle.arrival.specs.Arrivals.{Brought, single, part}
+use Rattle.arrival.specs.Keys.{ofPages}
+use Rattle.joined.specs.Fronts.{packetIn}
 use Rattle.slots.specs.Below.{allBelow}
-use Rattle.slots.specs.RankLaws.{ranks-differ}
-use Rattle.slots.specs.Slots.{slotAt, freeSlot, atCount, withSlots}
+use Rattle.slots.specs.RankLaws.{ranks-differ, aged-taken, closed-taken}
+use Rattle.slots.specs.FrontLaws.{front-here, front-there, freed-here, freed-there}
+use Rattle.slots.specs.Slots.{slotAt, opened, freeSlot, atRank, atCount, withPart, aged, closed, toFront, freed, withSlots}
 use Rattle.formed.specs.Formed.{slotsFormed, recordFormed}
-use Rattle.formed.specs.Laws.{Formed, formed-tells, formed-told}
+use Rattle.formed.specs.Laws.{Formed, array-holds, formed-tells, formed-told}
 use Rattle.beats.specs.Beats.{AfterBeat, afterBeat, slotsAfterBeat, droppedBy, beaten, beat}
 use Rattle.beats.specs.Laws.{Beaten, free, drops, stays, beaten?, beat-at, stayed, beat-formed}
-use Rattle.series.specs.Cells.{cellsSize}
-use Rattle.series.specs.Taking.{State, After, Answer, state, kept, packet, Step, acted, step, takePart, taken}
+use Rattle.series.specs.Cells.{cellsSize, joinedOctets}
+use Rattle.series.specs.Taking.{State, After, state, kept, packet, handOut, Step, acted, step, takePart, taken}
 use Rattle.series.specs.CaseLaws.{Lacks, Case, other-total, other-octets, held-so, last, more, takes-free, displaces, case-of}
 use Rattle.series.specs.Calls.{octetsOf, read}
 use Rattle.demands.specs.Examples.{M}
 use Rattle.demands.specs.Lists.{elem}
-use Rattle.demands.specs.Runs.{Slots, Call, Event, takes, beats, ProperCall, Proper, Each, Store, fresh, outcome, leftBy, run}
+use Rattle.demands.specs.Runs.{Slots, Call, Event, takes, beats, ProperCall, Proper, Each, Store, fresh, outcome, left, leftBy, run}
 use Rattle.demands.specs.Wake as window
-use Rattle.demands.specs.Wake.{History, FewerThanLeast, Start, begin, historyBy, follow, Fair}
+use Rattle.demands.specs.Wake.{History, FewerThanLeast, counts, Start, begin, historyBy, follow, Fair}
 use Rattle.demands.specs.Reached.{key, halves, first, second, cells}
 use Rattle.demands.specs.Silence as silent
-use Rattle.demands.specs.Silence.{BeatRefuses, BeatDoes, Beating, silence, GivenUp, SilentGivenUp, MetInTime, MissedTooLate, OnTheLimit}
-use Rattle.demands.proofs.Calls.{isPage, taking, fresh-free, Kept, beat-is, kept-beat, kept-by, kept-fresh}
+use Rattle.demands.specs.Silence.{BeatRefuses, BeatDoes, Beating, Untouched, beatsWithin, silence, SilentGivenUp, MetInTime, MissedTooLate, OnTheLimit}
+use Rattle.demands.proofs.Calls.{isPage, taking, fresh-free, Kept, Beat, no-beat, is-beat, beat?, beat-is, kept-beat, kept-by, kept-fresh}
+use Rattle.demands.proofs.Track.{key-there, used-before}
 use Rattle.demands.proofs.Along.{All, each, Along, each-with}
 use Rattle.demands.proofs.Wake.{admits, wake-window-least}
 use Rattle.demands.proofs.Reached.{same-part, proper-first, proper-second, reads-first, reads-second, store-run}
@@ -174,12 +179,169 @@ module _ (n : ℕ) (pos : Slots n) (k : Kind) (limit : ℕ) (low : 0 < limit) (h
           ap (λ (a : After). a .answer) e
           ∙ by-case (step n s K total number o) (case-of n s K total number o (w′ .sound .formed))
 
-    given-up : GivenUp n k st limit
-    given-up = record { gone = λ K j l u e. none-used j u; taken-anew = anew }
+-- ---- no touch
+-- Each slot with the key is m beats old at least, m being the beats so far with a limit up to this one, and m is below the limit: the next such beat
+-- finds it too old, or it is one older.
+module _ (n : ℕ) (pos : Slots n) (k : Kind) (K : Key) (limit : ℕ) where
+  abbrev Old : ℕ → List Slot → Type 0
+  Old m xs = (j : ℕ) → j < n → 0 < slotAt xs j .rank → slotAt xs j .key ≡ K → (m ≤ slotAt xs j .beats) × (m < limit)
+
+  -- slot j becomes another, without the key, and each other slot keeps all but its rank
+  module _ (m : ℕ) (xs : List Slot) (old : Old m xs) where
+    moved : (ys : List Slot) (j : ℕ) (g : ℕ → ℕ) → ((q : ℕ) → not (eqb (g q) 0) ≡ not (eqb q 0))
+        → ((l : ℕ) → (l ≡ j → ⊥) → slotAt ys l ≡ atRank (g (slotAt xs l .rank)) (slotAt xs l)) → (0 < slotAt ys j .rank → slotAt ys j .key ≡ K → ⊥) → Old m ys
+    moved ys j g same-used there here l a u q = go (same? l j)
+      where
+        go : Same l j → (m ≤ slotAt ys l .beats) × (m < limit)
+        go (same e p) = absurd (here (omega (arith, ap (λ (o : ℕ). slotAt ys o .rank) p)) (ap (λ (o : ℕ). slotAt ys o .key) (sym p) ∙ q))
+        go (other e p) =
+            let (x, y) = old l a (used-before xs ys j g same-used there l p u) (sym (key-there xs ys j g same-used there l p) ∙ q) in
+            (omega (arith, x, ap (λ (z : Slot). z .beats) (there l p)), y)
+
+  module _ (m : ℕ) (s : State) (w : Formed n (s .rec .kind) (s .rec .slots)) (old : Old m (s .rec .slots)) where
+    abbrev own : List Slot
+    own = s .rec .slots
+
+    inside : (j : ℕ) → j < n → j < length own
+    inside j l = omega (arith, array-holds n (s .rec .kind) own w)
+
+    fronted : (X : Key) (j : ℕ) → j < n → (y : Slot) → y .key ≡ X → (X ≡ K → ⊥) → Old m (toFront own j y)
+    fronted X j l y e ne =
+        moved m own old (toFront own j y) j (aged (slotAt own j .rank)) (aged-taken (slotAt own j .rank)) (front-there own j y)
+        (λ u q. ne (sym e ∙ ap (λ (z : Slot). z .key) (sym (front-here own j y (inside j l))) ∙ q))
+
+    ended : (j : ℕ) → j < n → 0 < slotAt own j .rank → (p : Option (List ℕ)) → Old m (handOut s (withSlots (s .rec) (freed own j)) p .state .rec .slots)
+    ended j l u none = freed-old
+      where
+        freed-old : Old m (freed own j)
+        freed-old =
+            moved m own old (freed own j) j (closed (slotAt own j .rank)) (λ q. closed-taken (slotAt own j .rank) q u) (freed-there own j)
+            (λ v q. omega (arith, ap (λ (z : Slot). z .rank) (freed-here own j (inside j l))))
+    ended j l u (some p) =
+        moved m own old (freed own j) j (closed (slotAt own j .rank)) (λ q. closed-taken (slotAt own j .rank) q u) (freed-there own j)
+        (λ v q. omega (arith, ap (λ (z : Slot). z .rank) (freed-here own j (inside j l))))
+
+    module _ (X : Key) (total number : ℕ) (o : List ℕ) where
+      -- an answer that counts is not to the key
+      not-own : (a : After) → (X ≡ K → counts a ≡ false) → counts a ≡ true → X ≡ K → ⊥
+      not-own a quiet loud e = clash (counts a) loud (quiet e)
+
+      old-case : (z : Step) → Case n s X total number o z → (X ≡ K → counts (acted n s X total number o z) ≡ false) → Old m (acted n s X total number o z .state .rec .slots)
+      old-case z (other-total j b t) quiet = old
+      old-case z (other-octets j b t h c) quiet = old
+      old-case z (held-so j b t h c) quiet = fronted X j (b .inside) (slotAt own j) (b .key) (not-own (acted n s X total number o z) quiet refl)
+      old-case z (last j b t h c) quiet = ended j (b .inside) (b .used) (packetIn (s .rec .kind) (ofPages X) total (joinedOctets (s .cells) (slotAt own j) j number o))
+      old-case z (more j b t h c) quiet = fronted X j (b .inside) (withPart (slotAt own j) number (length o)) (b .key) (not-own (acted n s X total number o z) quiet refl)
+      old-case z (takes-free j lacks l e lower) quiet = fronted X j l (withPart (opened X total) number (length o)) refl (not-own (acted n s X total number o z) quiet refl)
+      old-case z (displaces j lacks l e all) quiet = fronted X j l (withPart (opened X total) number (length o)) refl (not-own (acted n s X total number o z) quiet refl)
+
+    single-old : (p : Option (List ℕ)) → Old m (handOut s (s .rec) p .state .rec .slots)
+    single-old none = old
+    single-old (some p) = old
+
+    old-taken : (paged : Bool) (o : List ℕ) (r : reading.Outcome Brought)
+        → ((total number start : ℕ) → r ≡ reading.gives (part K total number start) → counts (taken n s paged o r) ≡ false) → Old m (taken n s paged o r .state .rec .slots)
+    unfolding takePart
+    old-taken paged o (reading.refused q) quiet = old
+    old-taken paged o (reading.gives (single start)) quiet = single-old (packetIn (s .rec .kind) paged 1 (drop start o))
+    old-taken paged o (reading.gives (part X total number start)) quiet =
+        old-case X total number (drop start o) (step n s X total number (drop start o)) (case-of n s X total number (drop start o) w)
+        (λ e. quiet total number start (ap (λ (Y : Key). reading.gives (part Y total number start)) e))
+
+  -- ---- one event
+  old-call : (m : ℕ) (st : Store) → Kept n k st → Old m (st .rec .slots) → (c : Call) → ProperCall c
+      → ((total number start : ℕ) → read k (c .input) ≡ reading.gives (part K total number start) → counts (outcome n st c) ≡ false) → Old m (left (outcome n st c) .rec .slots)
+  old-call m st w old c p quiet =
+      let s : State = state (st .rec) (st .cells) (c .output) in
+      let e : outcome n st c ≡ taken n s (isPage (c .input)) (octetsOf (c .input)) (read k (c .input)) =
+      taking n s (w .sound) (p .output) (c .input) ∙ ap (λ (x : Kind). taken n s (isPage (c .input)) (octetsOf (c .input)) (read x (c .input))) (w .kind) in
+      subst (λ (a : After). Old m (a .state .rec .slots)) (sym e)
+      (old-taken m s (w .sound .formed) old (isPage (c .input)) (octetsOf (c .input)) (read k (c .input))
+      (λ total number start r. ap counts (sym e) ∙ quiet total number start r))
+
+  -- a beat counts if its limit is one of 1 to this one
+  abbrev counted : ℕ → Bool
+  counted l = not (eqb l 0) && leb l limit
+
+  old-beat : (m : ℕ) (st : Store) → Kept n k st → Old m (st .rec .slots) → (l : ℕ) → Old (cond (counted l) (suc m) m) (leftBy n st (beats l) .rec .slots)
+  old-beat m st w old l = go (same? l 0)
+    where
+      refused-there : (a : AfterBeat) → Beat n pos k (st .rec) l a → l ≡ 0 → Old m (a .rec .slots)
+      refused-there a (no-beat q) z = old
+      refused-there a (is-beat low) z = absurd (omega arith)
+
+      older : (b : Bool) → leb l limit ≡ b → Old (cond b (suc m) m) (slotsAfterBeat l (st .rec .slots))
+      older true e j a u q =
+          let s = stayed l (st .rec .slots) j u in
+          let (x, y) = old j a (s .used) (sym (ap (λ (z : Slot). z .key) (s .is)) ∙ q) in
+          let e′ = ap (λ (z : Slot). z .beats) (s .is) in
+          (omega arith, omega (arith, s .young, leb-true l limit e))
+      older false e j a u q =
+          let s = stayed l (st .rec .slots) j u in
+          let (x, y) = old j a (s .used) (sym (ap (λ (z : Slot). z .key) (s .is)) ∙ q) in
+          let e′ = ap (λ (z : Slot). z .beats) (s .is) in
+          (omega arith, y)
+
+      go : Same l 0 → Old (cond (counted l) (suc m) m) (leftBy n st (beats l) .rec .slots)
+      go (same e z) = rw e (refused-there (beat n (st .rec) l) (beat? n pos k (st .rec) l) z)
+      go (other e z) =
+          rw e (subst (λ (x : Store). Old (cond (leb l limit) (suc m) m) (x .rec .slots)) (sym (beat-is n pos k st w l z)) (older (leb l limit) refl))
+
+  -- ---- any list of events
+  old-run : (events : List Event) (m : ℕ) (st : Store) → Kept n k st → Each Proper events → Untouched n k K st events → Old m (st .rec .slots)
+      → Old (beatsWithin limit events + m) (run n st events .rec .slots)
+  old-run [] m st w ps quiet old = let e : m ≡ 0 + m = omega arith in subst (λ (q : ℕ). Old q (st .rec .slots)) e old
+  old-run (takes c ∷ events) m st w ps quiet old =
+      old-run events m (left (outcome n st c)) (kept-by n pos k (admits k) st w (takes c) (ps [] (takes c) events refl))
+      (λ u d v e. ps (takes c ∷ u) d v (ap (λ (l : List Event). takes c ∷ l) e)) (λ u d v e. quiet (takes c ∷ u) d v (ap (λ (l : List Event). takes c ∷ l) e))
+      (old-call m st w old c (ps [] (takes c) events refl) (λ total number start r. quiet [] c events refl total number start r))
+  old-run (beats l ∷ events) m st w ps quiet old =
+      subst (λ (q : ℕ). Old q (run n st (beats l ∷ events) .rec .slots)) (by-count (counted l))
+      (old-run events (cond (counted l) (suc m) m) (leftBy n st (beats l)) (kept-by n pos k (admits k) st w (beats l) (ps [] (beats l) events refl))
+      (λ u d v e. ps (beats l ∷ u) d v (ap (λ (x : List Event). beats l ∷ x) e)) (λ u d v e. quiet (beats l ∷ u) d v (ap (λ (x : List Event). beats l ∷ x) e))
+      (old-beat m st w old l))
+    where
+      by-count : (b : Bool) → beatsWithin limit events + cond b (suc m) m ≡ cond b (suc (beatsWithin limit events)) (beatsWithin limit events) + m
+      by-count true = omega arith
+      by-count false = refl
+
+  kept-all : (events : List Event) (st : Store) → Kept n k st → Each Proper events → Kept n k (run n st events)
+  kept-all [] st w ps = w
+  kept-all (e ∷ events) st w ps = kept-all events (leftBy n st e) (kept-by n pos k (admits k) st w e (ps [] e events refl)) (λ u d v f. ps (e ∷ u) d v (ap (λ (l : List Event). e ∷ l) f))
+
+  -- a part of a key that is not held is kept
+  module _ (st : Store) (w : Kept n k st) (lacks : Lacks n (st .rec .slots) K) (c : Call) (p : ProperCall c) (total number start : ℕ)
+      (reads : read k (c .input) ≡ reading.gives (part K total number start)) where
+    abbrev here : State
+    here = state (st .rec) (st .cells) (c .output)
+
+    abbrev Kept′ : After → Type 0
+    Kept′ a = (slot : ℕ) × (displaced : Bool) × (a .answer ≡ kept slot displaced)
+
+    new-case : (z : Step) → Case n here K total number (drop start (octetsOf (c .input))) z → Kept′ (acted n here K total number (drop start (octetsOf (c .input))) z)
+    new-case z (other-total i a t) = absurd (lacks i (a .inside) (a .used) (a .key))
+    new-case z (other-octets i a t h e) = absurd (lacks i (a .inside) (a .used) (a .key))
+    new-case z (held-so i a t h e) = absurd (lacks i (a .inside) (a .used) (a .key))
+    new-case z (last i a t h e) = absurd (lacks i (a .inside) (a .used) (a .key))
+    new-case z (more i a t h e) = absurd (lacks i (a .inside) (a .used) (a .key))
+    new-case z (takes-free i none-held l e lower) = (i, false, refl)
+    new-case z (displaces i none-held l e all) = (i, true, refl)
+
+    kept-new : Kept′ (outcome n st c)
+    unfolding takePart
+    kept-new =
+        let e : outcome n st c ≡ taken n here (isPage (c .input)) (octetsOf (c .input)) (reading.gives (part K total number start)) =
+        taking n here (w .sound) (p .output) (c .input) ∙ ap (λ (x : Kind). taken n here (isPage (c .input)) (octetsOf (c .input)) (read x (c .input))) (w .kind)
+        ∙ ap (taken n here (isPage (c .input)) (octetsOf (c .input))) reads in
+        subst Kept′ (sym e) (new-case (step n here K total number (drop start (octetsOf (c .input)))) (case-of n here K total number (drop start (octetsOf (c .input))) (w .sound .formed)))
 
 pub silent-given-up : (n : ℕ) → Slots n → SilentGivenUp n
-silent-given-up n pos k cells earlier size before limit low high =
-    given-up n pos k limit low high (run n (fresh n k cells) earlier) (kept-fresh n pos k (admits k) cells size earlier before)
+silent-given-up n pos k K cells earlier events size before proper quiet limit low enough =
+    let st : Store = run n (fresh n k cells) earlier in
+    let w : Kept n k st = kept-fresh n pos k (admits k) cells size earlier before in
+    let old = old-run n pos k K limit events 0 st w proper quiet (λ j l u e. (omega arith, low)) in
+    let gone : Lacks n (run n st events .rec .slots) K = λ j l u e. omega (arith, old j l u e .1) in
+    record { gone = gone; taken-anew = kept-new n pos k K limit (run n st events) (kept-all n pos k K limit events st w proper) gone }
 
 -- ---- the number is the right one
 module _ (n : ℕ) (pos : Slots n) (b limit : ℕ) (low : 0 < limit) (high : limit < 256) where
@@ -194,8 +356,11 @@ module _ (n : ℕ) (pos : Slots n) (b limit : ℕ) (low : 0 < limit) (high : lim
 
   missed-too-late : MissedTooLate n b limit
   missed-too-late =
-      let g = given-up n pos Command limit low high (run n (fresh n Command (cells n b)) (takes (first b) ∷ [])) kept-first in
-      record { lost = g .gone key; kept-anew = g .taken-anew (second b) (proper-second n pos b) key 2 2 6 (reads-second n pos b) }
+      let st : Store = run n (fresh n Command (cells n b)) (takes (first b) ∷ []) in
+      record {
+        lost = λ j l u e. none-used n pos Command limit low high st kept-first j u;
+        kept-anew = anew n pos Command limit low high st kept-first (second b) (proper-second n pos b) key 2 2 6 (reads-second n pos b);
+      }
 
   -- after the first part, and m beats behind it
   record Waits (m : ℕ) (q : History) : Type 0 where

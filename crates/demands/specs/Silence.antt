@@ -1,9 +1,10 @@
 -- A series whose sender went silent is given up (02 [6], "Give up what is dead").
 use Prim.Native.Nat.{ℕ, zero, suc, _-_, _≤_, _<_}
 use mathlib.Core.Path.{_≡_}
-use mathlib.Core.Bool.{true, false}
+use mathlib.Core.Bool.{Bool, true, false, not, cond, _&&_}
 use mathlib.Core.List.{List, [], _∷_, _++_}
 use lib.ListN.{length}
+use lib.Dec.{eqb, leb}
 use Rattle.types.specs.declared.Kind.{Kind}
 use Rattle.types.specs.declared.Kind.the-variants.{Command}
 use Rattle.types.specs.Refusals.{refused, gives}
@@ -19,7 +20,7 @@ use Rattle.series.specs.CaseLaws.{Lacks}
 use Rattle.series.specs.Calls.{read}
 use Rattle.demands.specs.Examples.{M}
 use Rattle.demands.specs.Runs.{Call, Event, takes, beats, ProperCall, Proper, Each, Store, fresh, outcome, run}
-use Rattle.demands.specs.Wake.{FewerThanLeast, Start}
+use Rattle.demands.specs.Wake.{FewerThanLeast, counts, Start}
 use Rattle.demands.specs.Reached.{key, halves, first, second, cells}
 
 -- ---- one beat
@@ -45,22 +46,35 @@ Beating n =
     (r : Record) (limit : ℕ) → BeatRefuses n r limit × (recordFormed n r ≡ true → 0 < limit → limit < 256 → BeatDoes n r limit)
 
 -- ---- silence
+-- Nothing touches the series of a key: no call with the key is answered "kept" or "held already".
+abbrev pub Untouched : ℕ → Kind → Key → Store → List Event → Type 0
+Untouched n k K st events = (u : List Event) (c : Call) (v : List Event) → events ≡ u ++ takes c ∷ v → (total number start : ℕ)
+    → read k (c .input) ≡ gives (part K total number start) → counts (outcome n (run n st u) c) ≡ false
+
+-- how many beats among them have a limit of 1 up to this one
+abbrev pub beatsWithin : ℕ → List Event → ℕ
+beatsWithin limit [] = 0
+beatsWithin limit (takes c ∷ events) = beatsWithin limit events
+beatsWithin limit (beats l ∷ events) = cond (not (eqb l 0) && leb l limit) (suc (beatsWithin limit events)) (beatsWithin limit events)
+
+-- The key is held no more. "A reused reference", with whatever total, is kept then: it is neither refused 7 nor completes what was there.
+pub record GivenUp (n : ℕ) (k : Kind) (K : Key) (st : Store) : Type 0 where
+  pub gone : Lacks n (st .rec .slots) K
+  pub taken-anew : (c : Call) → ProperCall c → (total number start : ℕ) → read k (c .input) ≡ gives (part K total number start)
+      → (slot : ℕ) × (displaced : Bool) × (outcome n st c .answer ≡ kept slot displaced)
+
+-- "Give up what is dead": from any store that calls and beats from a fresh record lead to, after as many beats as the limit says and no touch, whatever
+-- else comes between, calls with other keys and parts of this one that are refused.
+abbrev pub SilentGivenUp : ℕ → Type 0
+SilentGivenUp n =
+    (k : Kind) (K : Key) (cells : List ℕ) (earlier events : List Event) → length cells ≡ cellsSize n → Each Proper earlier → Each Proper events
+    → Untouched n k K (run n (fresh n k cells) earlier) events
+    → (limit : ℕ) → 0 < limit → limit ≤ beatsWithin limit events → GivenUp n k K (run n (run n (fresh n k cells) earlier) events)
+
 -- m beats in a row, with one limit
 abbrev pub silence : ℕ → ℕ → List Event
 silence limit zero = []
 silence limit (suc m) = beats limit ∷ silence limit m
-
--- After as many beats as the limit says and no call between, from any store that calls and beats from a fresh record lead to, no key is held; "a
--- reused reference" with any total is taken then, in the lowest slot, and displaces nothing.
-pub record GivenUp (n : ℕ) (k : Kind) (st : Store) (limit : ℕ) : Type 0 where
-  pub gone : (K : Key) → Lacks n (run n st (silence limit limit) .rec .slots) K
-  pub taken-anew : (c : Call) → ProperCall c → (K : Key) (total number start : ℕ) → read k (c .input) ≡ gives (part K total number start)
-      → outcome n (run n st (silence limit limit)) c .answer ≡ kept 0 false
-
-abbrev pub SilentGivenUp : ℕ → Type 0
-SilentGivenUp n =
-    (k : Kind) (cells : List ℕ) (earlier : List Event) → length cells ≡ cellsSize n → Each Proper earlier
-    → (limit : ℕ) → 0 < limit → limit < 256 → GivenUp n k (run n (fresh n k cells) earlier) limit
 
 -- ---- the number is the right one, for each limit
 module _ (n b limit : ℕ) where
