@@ -76,7 +76,7 @@ module _ (n : ℕ) (pos : Slots n) (k : Kind) where
   fresh-kept : (cells : List ℕ) → length cells ≡ cellsSize n → Kept n k (fresh n k cells)
   fresh-kept cells size = record { kind = refl; sound = record { number = refl; formed = fresh-formed n k (pos .some) (pos .most); size = size } }
 
-  each-rest : (P : Event → Type 0) (c : Event) (cs : List Event) → Each P (c ∷ cs) → Each P cs
+  pub each-rest : (P : Event → Type 0) (c : Event) (cs : List Event) → Each P (c ∷ cs) → Each P cs
   each-rest P c cs all u d v e = all (c ∷ u) d v (ap (λ (l : List Event). c ∷ l) e)
 
   -- ---- one beat: it is refused, or the record is one beat older

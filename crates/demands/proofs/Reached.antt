@@ -60,7 +60,7 @@ pub same-part : {K₁ K₂ : Key} {t₁ t₂ m₁ m₂ s₁ s₂ : ℕ} → read
 same-part e = (cc, cc, cc, cc)
 
 -- two runs, one after the other
-run-more : (n : ℕ) (u v : List Event) (st : Store) → run n st (u ++ v) ≡ run n (run n st u) v
+pub run-more : (n : ℕ) (u v : List Event) (st : Store) → run n st (u ++ v) ≡ run n (run n st u) v
 run-more n [] v st = refl
 run-more n (c ∷ u) v st = run-more n u v (leftBy n st c)
 

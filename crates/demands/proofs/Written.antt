@@ -52,12 +52,12 @@ zero-small (suc m) = and 0 (omega arith) (zero-small m)
 
 -- ---- user data
 module _ (width reference : ℕ) (fits : referenceFits width reference ≡ true) where
-  below-wide : reference < 65536
+  pub below-wide : reference < 65536
   below-wide =
       by-test (eqb width 8 && ltb reference 256) (λ e. let l = ltb-true reference 256 (both (eqb width 8) (ltb reference 256) e .1) in omega arith)
       (λ e. ltb-true reference 65536 (both (eqb width 16) (ltb reference 65536) (rw e at fits) .1))
 
-  below-narrow : eqb width 16 ≡ false → reference < 256
+  pub below-narrow : eqb width 16 ≡ false → reference < 256
   below-narrow n =
       by-test (eqb width 8 && ltb reference 256) (λ e. ltb-true reference 256 (both (eqb width 8) (ltb reference 256) e .1))
       (λ e. absurd (clash false (rw (e, n) at fits) refl))

@@ -17,7 +17,7 @@ use Rattle.slots.specs.Slots.{noKey, slotAt, freeSlot, sameKey, atRank, 
 use Rattle.slots.specs.RankLaws.{closed-near}
 
 -- the slot that stands past the end of a list
-abbrev past : Slot
+abbrev pub past : Slot
 past = record { rank = 0; beats = 0; key = noKey; total = 0; lengths = []; held = [] }
 
 module _ (xs : List Slot) (i : ℕ) where

@@ -62,7 +62,7 @@ or-free : (k : ℕ) (b : Bool) (r : ℕ) → k ≡ 0 → b || eqb k (r + 1) ≡ 
 or-free k true r e = refl
 or-free k false r e = ne-eqb k (r + 1) (λ q. omega arith)
 
-different : (n m : ℕ) (rank : ℕ → ℕ) → countBelow m (λ r. someRank n rank (r + 1)) ≤ countBelow n (hasRank rank)
+pub different : (n m : ℕ) (rank : ℕ → ℕ) → countBelow m (λ r. someRank n rank (r + 1)) ≤ countBelow n (hasRank rank)
 unfolding anyBelow countBelow
 different zero m rank = rw (none-counted m) (omega arith)
 different (suc n) m rank = go (different n m rank) (same? (rank n) 0)
