@@ -14,6 +14,8 @@ use Rattle.demands.proofs.Silence as silence
 use Rattle.demands.proofs.SplitTaken as split
 use Rattle.demands.proofs.Delivery as delivery
 use Rattle.demands.proofs.Reports as reports
+use Rattle.demands.proofs.Reachable as reachable
+use Rattle.demands.proofs.NeverMade as never
 
 pub demand-1 : Demand1
 demand-1 = record {
@@ -32,6 +34,8 @@ demand-1 = record {
   salvaging-a-capture = refusing.salvaging-refused;
   unfit = refusing.unfit-refused;
   making-a-record = refusing.making-refused;
+  acceptance = reachable.acceptance;
+  refused-if-never-made = never.refused-if-never-made;
 }
 
 pub demand-2 : Demand2

@@ -21,4 +21,13 @@ pub mod Delivery
 pub mod Reached
 pub mod Silence
 pub mod Reports
+pub mod Weights
+pub mod Away
+pub mod Bringing
+pub mod Fitting
+pub mod Leading
+pub mod Back
+pub mod Filler
+pub mod Reachable
+pub mod NeverMade
 pub mod Demands

@@ -13,6 +13,7 @@ use Rattle.demands.specs.RoundTrips.{BuildThenRead, CommandTells, ReadTh
 use Rattle.demands.specs.Checked.{CheckBits, StillCarried}
 use Rattle.demands.specs.Wake.{FewerThanLeast, InTime, WakeWindow, PacketComes}
 use Rattle.demands.specs.Always.{AlwaysFormed, NoKeyTwice}
+use Rattle.demands.specs.Reachable.{Acceptance, RefusedIfNeverMade}
 use Rattle.demands.specs.Crowding.{NeverDisplaced}
 use Rattle.demands.specs.Silence.{Beating, SilentGivenUp}
 use Rattle.demands.specs.SplitTaken.{MessagesArrive, PagesArrive}
@@ -21,7 +22,8 @@ use Rattle.demands.specs.Reports.{ReportRefusals, NoneLost, NoneLostEith
 
 -- 1. "Every entry point takes every input, does nothing undefined and ends": no public call asks anything of its caller, and each is proved.
 -- "Bad input, bad buffers and a record that the library could not have made are refused by number. A refusal alters no lent buffer and no
--- record", with one exception. What is said of taking holds for every number, also of a record that the library could not have made.
+-- record", with one exception. What is said of taking holds for every number, also of a record that the library could not have made. Which records
+-- these are is no claim: a record is well formed exactly if calls and beats can make it (`acceptance`), and refused 1 exactly if they cannot.
 pub record Demand1 : Type 0 where
   pub taking : (n : ℕ) → TakingRefused n
   pub beat : (n : ℕ) → BeatRefused n
@@ -38,6 +40,8 @@ pub record Demand1 : Type 0 where
   pub salvaging-a-capture : SalvagingRefused
   pub unfit : (n : ℕ) → UnfitRefused n
   pub making-a-record : MakingRefused
+  pub acceptance : (n : ℕ) → Slots n → Acceptance n
+  pub refused-if-never-made : RefusedIfNeverMade
 
 -- 2. The rules are 01's, and every public call equals its rule; "building then reading gives the same fields, and reading then building the
 -- same octets"; what is split is put together again, by every reader and by taking; the order of a header's elements does not matter, except among the

@@ -6,6 +6,7 @@ pub mod Lists
 pub mod Runs
 pub mod Wake
 pub mod Always
+pub mod Reachable
 pub mod Crowding
 pub mod Refusing
 pub mod Tightness
