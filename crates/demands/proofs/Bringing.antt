@@ -124,6 +124,7 @@ module _ (k : Kind) (key : Key) (total number size : ℕ) (fits : KeyFits key) (
   of-page Command formed w less whole =
       let (f, range) = both (eqb (key .sender) 0 && eqb (key .reference) 0) (identifierInRange (key .identifier .0)) formed in
       let (s, r) = both (eqb (key .sender) 0) (eqb (key .reference) 0) f in
+      let two-octets : key .serial .0 < 65536 = omega (arith, fits .serial) in
       let p : List ℕ = fullPages total in
       let long : length (fullPages total) ≡ pageContent * total = length-replicate {A = ℕ} (pageContent * total) 0 in
       let count : pages (length (fullPages total)) ≡ total = omega (arith, long) in
@@ -132,7 +133,7 @@ module _ (k : Kind) (key : Key) (total number size : ℕ) (fits : KeyFits key) (
       record {
         input = page (pageWritten (key .serial .0) (key .identifier .0) 0 p number);
         start = pageHeader;
-        octets = page-octets (key .serial .0) (key .identifier .0) 0 p number (fits .serial) range (omega arith) (omega (arith, long)) (omega (arith, count)) (small-octets (zero-small (pageContent * total)));
+        octets = page-octets (key .serial .0) (key .identifier .0) 0 p number two-octets range (omega arith) (omega (arith, long)) (omega (arith, count)) (small-octets (zero-small (pageContent * total)));
         sender = tt;
         is = read-page (key .serial .0) (key .identifier .0) 0 p number range (omega (arith, long)) low (omega (arith, count)) (λ e. omega (arith, count))
             ∙ ap (λ (t : ℕ). gives (part (pageKey (key .serial .0) (key .identifier .0)) t number pageHeader)) count

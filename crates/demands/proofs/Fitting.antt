@@ -46,7 +46,7 @@ brought-fits : (k : Kind) (i : Input) → Octets (octetsOf i) → SenderFits i �
 brought-fits k (message sender ud) o s b e =
     given-as k sender ud b (message-read k sender ud b e) OfPart (λ room. tt) (λ c r. record { sender = s; serial = omega arith })
 brought-fits k (page octets) o s b e =
-    page-given-as k octets b OfPart (λ r. tt) (λ r several. record { sender = omega arith; serial = number-fits (getD octets 0 0) (getD octets 1 0) (o 0) (o 1) }) e
+    page-given-as k octets b OfPart (λ r. tt) (λ r several. record { sender = omega arith; serial = omega (arith, number-fits (getD octets 0 0) (getD octets 1 0) (o 0) (o 1)) }) e
 
 -- ---- slots
 free-fits : KeyFits noKey
