@@ -1,12 +1,11 @@
--- One step back from a well-formed record, to another well-formed one. Let the most recent series be in slot i. If its count is above 0, a beat
--- came last, and every count is one less before it: none is above 254, so a beat with limit 255 drops nothing. If its count is 0 a part came
--- last: before, the series lacks one of its parts; if it has only one and all slots below i are used, slot i is free before.
-use Prim.Native.Nat.{ℕ, zero, suc, pred, _-_, _≤_, _<_}
-use mathlib.Core.Path.{_≡_, refl, sym, ap, _∙_, subst}
+-- One step back from a well-formed record whose most recent series, in slot i, was touched by the last call: before, the series lacks one of its
+-- parts; if it has only one and all slots below i are used, slot i is free before.
+use Prim.Native.Nat.{ℕ, zero, suc, pred, _-_, _<_}
+use mathlib.Core.Path.{_≡_, refl, sym, ap, _∙_}
 use mathlib.Core.Bool.{true, false}
-use mathlib.Core.List.{List, map}
+use mathlib.Core.List.{List}
 use native.Mathlib.Omega.{arith}
-use lib.ListN.{length, getD, length-map, List·getD-map}
+use lib.ListN.{length, getD}
 use lib.Seq.{ext-getD}
 use lib.Dec.{eqb, ltb}
 use borrow.Author.Tests.{eqb-true, eq-eqb, ltb-true, ltb-false, not-false}
@@ -14,22 +13,17 @@ use Rattle.octets.specs.Tests.{Same, same, other, same?, by-test}
 use Rattle.types.specs.declared.Kind.{Kind}
 use Rattle.types.specs.declared.Slot.{Slot}
 use Rattle.arrival.specs.Message.{mostParts}
-use Rattle.slots.specs.Slots.{mostSlots, slotAt, freeSlot, opened, atRank, atCount, atFront, heldAt, withPart, aged, closed, agedSlot, closedSlot, toFront, freed}
-use Rattle.slots.specs.RankLaws.{Aged, free, moves, yields, stays, aged?, closed-near, closed-far, closed-taken, ranks-differ, stay-ranked}
+use Rattle.slots.specs.Slots.{mostSlots, slotAt, freeSlot, opened, atRank, atFront, heldAt, withPart, aged, closed, agedSlot, closedSlot, toFront, freed}
+use Rattle.slots.specs.RankLaws.{Aged, free, moves, yields, stays, aged?, closed-near, closed-far, closed-taken, ranks-differ}
 use Rattle.slots.specs.FrontLaws.{past, front-here, front-there, front-length, freed-here, freed-there}
-use Rattle.formed.specs.Formed.{mostBeats, markAt, sizeAt, heldCount, slotFormed}
-use Rattle.formed.specs.Laws.{Formed, UsedSlot, slot-tells, slot-told, slot-count, slot-front, free-slot-formed, front-formed, free-formed}
-use Rattle.beats.specs.Beats.{afterBeat, slotsAfterBeat}
-use Rattle.beats.specs.Laws as beaten
-use Rattle.beats.specs.Laws.{beat-at, beat-length, beaten?}
+use Rattle.formed.specs.Formed.{markAt, sizeAt, heldCount, slotFormed}
+use Rattle.formed.specs.Laws.{Formed, UsedSlot, slot-tells, slot-front, front-formed, free-formed}
 use Rattle.series.specs.Taking.{completes}
 use Rattle.series.specs.CaseLaws.{Lacks}
-use Rattle.demands.specs.Runs.{Slots}
-use Rattle.demands.specs.Reachable.{KeyFits}
-use Rattle.demands.proofs.Away.{without, free-is, same-slot, below-total, length-fits, mark-gone, one-less, without-used, with-again, only-part, not-complete, some-holds}
+use Rattle.demands.proofs.Away.{without, same-slot, below-total, length-fits, mark-gone, one-less, without-used, with-again, only-part, not-complete, some-holds}
 use Rattle.demands.proofs.Bringing.{Brings, can-bring}
 use Rattle.demands.proofs.Fitting.{Fit, fit-front, fit-freed}
-use Rattle.demands.proofs.Leading.{Leads, recordOf, keeps-more, opens-new, lead-by-part, lead-by-beat}
+use Rattle.demands.proofs.Leading.{Leads, recordOf, keeps-more, opens-new, lead-by-part}
 
 -- a well-formed record, its keys within their types, from which one call or beat leads on
 pub record Before (n : ℕ) (k : Kind) (ys xs : List Slot) : Type 0 where
@@ -41,7 +35,7 @@ pub record Before (n : ℕ) (k : Kind) (ys xs : List Slot) : Type 0 where
 pub same-slots : (xs ys : List Slot) → length xs ≡ mostSlots → length ys ≡ mostSlots → ((j : ℕ) → j < mostSlots → slotAt xs j ≡ slotAt ys j) → xs ≡ ys
 same-slots xs ys a b e = ext-getD past xs ys (a ∙ sym b) (λ j l. e j (omega (arith, a)))
 
--- which differ in no slot but i, and not in this one
+-- the same, where slot i is treated apart
 pub same-but : (xs ys : List Slot) (i : ℕ) → length xs ≡ mostSlots → length ys ≡ mostSlots → slotAt xs i ≡ slotAt ys i
     → ((j : ℕ) → j < mostSlots → (j ≡ i → ⊥) → slotAt xs j ≡ slotAt ys j) → xs ≡ ys
 same-but xs ys i a b here there = same-slots xs ys a b (λ j l. go j l (same? j i))
@@ -104,114 +98,12 @@ module _ (n : ℕ) (k : Kind) (xs : List Slot) (w : Formed n k xs) (fit : Fit xs
   used-x : UsedSlot k x
   used-x = slot-tells k x (w .slots i inside) (omega (arith, front))
 
-  not-first : (j : ℕ) → j < mostSlots → (j ≡ i → ⊥) → slotAt xs j .rank ≡ 1 → ⊥
+  -- no other slot is the most recent
+  pub not-first : (j : ℕ) → j < mostSlots → (j ≡ i → ⊥) → slotAt xs j .rank ≡ 1 → ⊥
   not-first j l ne e =
       own-or-free n k xs w (λ j. slotAt xs j .rank ≡ 1 → (j ≡ i → ⊥) → ⊥) j l
       (λ m e ne. ne (ranks-differ n (λ o. slotAt xs o .rank) (w .ranks) j i m inside (omega (arith, front)) (e ∙ sym front))) (λ z e ne. omega arith) e ne
 
-  -- ---- a beat came last
-  module _ (old : 0 < slotAt xs i .beats) where
-    abbrev fewer : Slot → Slot
-    fewer y = atCount (pred (y .beats)) y
-
-    abbrev younger : List Slot
-    younger = map fewer xs
-
-    younger-at : (j : ℕ) → slotAt younger j ≡ fewer (slotAt xs j)
-    younger-at j = List·getD-map fewer xs j past
-
-    -- every used slot has a count, and no free one has
-    older : (j : ℕ) → j < n → 0 < slotAt xs j .rank → 0 < slotAt xs j .beats
-    older j l u = go (same? j i)
-      where
-        go : Same j i → 0 < slotAt xs j .beats
-        go (same e q) = omega (arith, ap (λ (o : ℕ). slotAt xs o .beats) q)
-        go (other e ne) = omega (arith, w .counts i j inside l (omega (arith, front)) (strict (same? (slotAt xs j .rank) 1)))
-          where
-            strict : Same (slotAt xs j .rank) 1 → slotAt xs i .rank < slotAt xs j .rank
-            strict (same f q) = absurd (not-first j (omega (arith, w .high)) ne q)
-            strict (other f q) = omega (arith, front)
-
-    still-free : (j : ℕ) → j < mostSlots → slotAt xs j .rank ≡ 0 → fewer (slotAt xs j) ≡ freeSlot
-    still-free j l z = ap fewer (free-is k (slotAt xs j) (slot-formed-at n k xs w j l) z)
-
-    fewer-formed : (j : ℕ) → j < mostSlots → Same (slotAt xs j .rank) 0 → slotFormed k (slotAt younger j) ≡ true
-    fewer-formed j l (same e z) = ap (slotFormed k) (younger-at j ∙ still-free j l z) ∙ free-slot-formed k
-    fewer-formed j l (other e ne) =
-        let f = slot-formed-at n k xs w j l in
-        let u = slot-tells k (slotAt xs j) f (omega arith) in
-        ap (slotFormed k) (younger-at j)
-        ∙ slot-told k (fewer (slotAt xs j)) (omega arith) (less (slotAt xs j .beats) (slot-count k (slotAt xs j) f (omega arith)))
-        (record { key = u .key; total = u .total; parts = u .parts; some = u .some; more = u .more; lengths = u .lengths; marks = u .marks })
-      where
-        less : (b : ℕ) → b ≤ mostBeats → pred b ≤ mostBeats
-        less b h = omega arith
-
-    younger-rank : (j : ℕ) → slotAt younger j .rank ≡ slotAt xs j .rank
-    younger-rank j = ap (λ (y : Slot). y .rank) (younger-at j)
-
-    younger-count : (j : ℕ) → slotAt younger j .beats ≡ pred (slotAt xs j .beats)
-    younger-count j = ap (λ (y : Slot). y .beats) (younger-at j)
-
-    younger-formed : Formed n k younger
-    younger-formed = record {
-      low = w .low;
-      high = w .high;
-      array = (simp length-map) ∙ w .array;
-      slots = λ j l. fewer-formed j (omega (arith, w .high)) (same? (slotAt xs j .rank) 0);
-      keys = λ h j l m u v q.
-          w .keys h j l m (omega (arith, younger-rank h)) (omega (arith, younger-rank j))
-          (sym (ap (λ (y : Slot). y .key) (younger-at h)) ∙ q ∙ ap (λ (y : Slot). y .key) (younger-at j));
-      ranks = stay-ranked n (λ j. slotAt xs j .rank) (w .ranks) (λ j. slotAt younger j .rank) (λ j. true) (λ j l. younger-rank j) (λ h j l m u v e. refl);
-      counts = λ h j l m u v.
-          let c : slotAt xs h .beats ≤ slotAt xs j .beats = w .counts h j l m (omega (arith, younger-rank h)) (omega (arith, younger-rank h, younger-rank j)) in
-          omega (arith, younger-count h, younger-count j);
-      rest = λ j l m. (fewer-formed j m (same? (slotAt xs j .rank) 0), younger-rank j ∙ w .rest j l m .1);
-    }
-
-    beat-again : slotsAfterBeat 255 younger ≡ xs
-    beat-again =
-        same-slots (slotsAfterBeat 255 younger) xs (beat-length 255 younger ∙ younger-formed .array) (w .array)
-        (λ j l. beat-at 255 younger j ∙ ap (afterBeat 255) (younger-at j)
-        ∙ own-or-free n k xs w (λ j. afterBeat 255 (fewer (slotAt xs j)) ≡ slotAt xs j) j l (λ m. own j m (same? (slotAt xs j .rank) 0)) (λ z. unused j l z))
-      where
-        unused : (j : ℕ) → j < mostSlots → slotAt xs j .rank ≡ 0 → afterBeat 255 (fewer (slotAt xs j)) ≡ slotAt xs j
-        unused j l z = go (beaten? 255 (fewer (slotAt xs j)))
-          where
-            go : beaten.Beaten 255 (fewer (slotAt xs j)) → afterBeat 255 (fewer (slotAt xs j)) ≡ slotAt xs j
-            go (beaten.free y r e) = e ∙ still-free j l z ∙ sym (free-is k (slotAt xs j) (slot-formed-at n k xs w j l) z)
-            go (beaten.drops u y r e) = absurd (omega arith)
-            go (beaten.stays u y r e) = absurd (omega arith)
-
-        own : (j : ℕ) → j < n → Same (slotAt xs j .rank) 0 → afterBeat 255 (fewer (slotAt xs j)) ≡ slotAt xs j
-        own j l (same f z) = unused j (omega (arith, w .high)) z
-        own j l (other f ne) = go (beaten? 255 (fewer (slotAt xs j)))
-          where
-            some-count : 0 < slotAt xs j .beats
-            some-count = older j l (omega arith)
-
-            low-count : slotAt xs j .beats ≤ mostBeats
-            low-count = slot-count k (slotAt xs j) (w .slots j l) (omega arith)
-
-            go : beaten.Beaten 255 (fewer (slotAt xs j)) → afterBeat 255 (fewer (slotAt xs j)) ≡ slotAt xs j
-            go (beaten.free y r e) = absurd (ne y)
-            go (beaten.drops u y r e) = let z : 255 ≤ suc (pred (slotAt xs j .beats)) = y in absurd (omega (arith, some-count, low-count))
-            go (beaten.stays u y r e) = e ∙ same-slot (atCount (suc (pred (slotAt xs j .beats))) (fewer (slotAt xs j))) (slotAt xs j) refl (omega (arith, some-count)) refl refl refl refl
-
-    pub beat-before : Slots n → Before n k (map (λ y. atCount (pred (y .beats)) y) xs) xs
-    beat-before good = record {
-      formed = younger-formed;
-      fit = λ j l. subst (λ (y : Slot). KeyFits (y .key)) (sym (younger-at j)) (fit j l);
-      leads = lead-by-beat n k younger xs younger-formed good beat-again;
-    }
-
-    pub beat-holds : (j : ℕ) → heldCount (slotAt (map (λ y. atCount (pred (y .beats)) y) xs) j) ≡ heldCount (slotAt xs j)
-    beat-holds j = ap (λ (y : Slot). heldCount y) (younger-at j)
-
-    pub beat-front : (slotAt (map (λ y. atCount (pred (y .beats)) y) xs) i .rank ≡ 1) × (slotAt xs i .beats ≡ suc (slotAt (map (λ y. atCount (pred (y .beats)) y) xs) i .beats))
-    beat-front = (younger-rank i ∙ front, omega (arith, younger-count i))
-
-  -- ---- a part came last
   module _ (touched : slotAt xs i .beats ≡ 0) (p : ℕ) (l : p < mostParts) (held : markAt (slotAt xs i) p ≡ true) where
     alone : (j : ℕ) → j < n → (j ≡ i → ⊥) → 0 < slotAt xs j .rank → slotAt xs j .key ≡ x .key → ⊥
     alone j m ne u q = ne (w .keys j i m inside u (omega (arith, front)) q)

@@ -27,6 +27,7 @@ pub mod Bringing
 pub mod Fitting
 pub mod Leading
 pub mod Back
+pub mod Younger
 pub mod Filler
 pub mod Reachable
 pub mod NeverMade

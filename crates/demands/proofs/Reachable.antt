@@ -1,9 +1,9 @@
 -- A record is well formed exactly if calls and beats can make it. Every well-formed one can be made: backwards from it, by its weight. First the
 -- beats since the last part are taken back; then the most recent series loses a part, or, if it has only one, every free slot below it gets
 -- a filler and then its slot is free. No call on this way repeats a part, so what the cells hold does not matter.
-use Prim.Native.Nat.{ℕ, zero, suc, pred, _+_, _≤_, _<_}
+use Prim.Native.Nat.{ℕ, zero, suc, _+_, _≤_, _<_}
 use mathlib.Core.Path.{_≡_, refl, sym, ap, _∙_, subst}
-use mathlib.Core.List.{List, [], _∷_, _++_, map}
+use mathlib.Core.List.{List, [], _∷_, _++_}
 use native.Mathlib.Omega.{arith}
 use lib.ListN.{length}
 use lib.Dec.{eqb}
@@ -14,7 +14,7 @@ use Rattle.types.specs.declared.Slot.{Slot}
 use Rattle.types.specs.declared.Record.{Record}
 use Rattle.slots.specs.Below.{anyBelow, countBelow}
 use Rattle.slots.specs.BelowLaws.{all-at, any-at}
-use Rattle.slots.specs.Slots.{slotAt, freeSlot, used, atCount, freed, freshRecord}
+use Rattle.slots.specs.Slots.{slotAt, freeSlot, used, freed, freshRecord}
 use Rattle.slots.specs.FrontLaws.{freed-here, freed-there}
 use Rattle.formed.specs.Formed.{heldCount, slotsFormed, recordFormed}
 use Rattle.formed.specs.Laws.{Formed, formed-tells, slot-tells, fresh-slot, fresh-formed}
@@ -29,7 +29,8 @@ use Rattle.demands.proofs.Weights.{weight, weight-most, weight-falls}
 use Rattle.demands.proofs.Away.{free-is, none-holds}
 use Rattle.demands.proofs.Fitting.{Fit, brings, made-fit}
 use Rattle.demands.proofs.Leading.{Leads, recordOf}
-use Rattle.demands.proofs.Back.{Before, same-slots, slot-formed-at, own-or-free, beat-before, beat-holds, beat-front, some-part-before, only-part-before}
+use Rattle.demands.proofs.Back.{Before, same-slots, slot-formed-at, own-or-free, some-part-before, only-part-before}
+use Rattle.demands.proofs.Younger.{younger, beat-before, beat-holds, beat-front}
 use Rattle.demands.proofs.Filler.{filler-before}
 
 -- ---- induction over well-formed records
@@ -142,7 +143,7 @@ module _ (n : ℕ) (good : Slots n) (k : Kind) (P : List Slot → Type 0) (first
       over-beats : (c : ℕ) (xs : List Slot) → Formed n k xs → Fit xs → weight n (holds xs) ≤ m → slotAt xs i .rank ≡ 1 → slotAt xs i .beats ≡ c → P xs
       over-beats zero xs w fit most front e = by-parts xs w fit most front e (same? (holds xs i) 1)
       over-beats (suc c) xs w fit most front e =
-          let ys : List Slot = map (λ y. atCount (pred (y .beats)) y) xs in
+          let ys : List Slot = younger xs in
           let some-beat : 0 < slotAt xs i .beats = omega arith in
           let before = beat-before n k xs w fit i inside front some-beat good in
           let (rank, count) = beat-front n k xs w fit i inside front some-beat in

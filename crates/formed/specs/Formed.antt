@@ -1,4 +1,4 @@
--- Which records are well formed (01, "Numbers"; 02 [5], [6]): those that the library can have made.
+-- Which records are well formed (01, "Numbers"; 02 [5], [6]): exactly those that calls and beats can make (`demands/specs/Reachable.antt`).
 use Prim.Native.Nat.{ℕ, _+_}
 use mathlib.Core.Bool.{Bool, false, not, cond, _&&_, _||_}
 use mathlib.Core.List.{List}
