@@ -31,4 +31,7 @@ pub mod Younger
 pub mod Filler
 pub mod Reachable
 pub mod NeverMade
+pub mod Folds
+pub mod Seats
+pub mod Shuffled
 pub mod Demands

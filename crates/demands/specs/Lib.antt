@@ -20,3 +20,4 @@ pub mod Capture
 pub mod SplitTaken
 pub mod Delivery
 pub mod Reports
+pub mod Shuffled
