@@ -5,6 +5,7 @@ use Rattle.demands.specs.Demands.{Demand1, Demand2, Demand3}
 use Rattle.demands.proofs.Calls as calls
 use Rattle.demands.proofs.Wake as wake
 use Rattle.demands.proofs.Crowding as crowding
+use Rattle.demands.proofs.Others as others
 use Rattle.demands.proofs.Refusing as refusing
 use Rattle.demands.proofs.Orders as orders
 use Rattle.demands.proofs.Twice as twice
@@ -82,4 +83,6 @@ demand-3 n good = record {
   never-displaced = crowding.never-displaced n good;
   beating = silence.beating n;
   silent-given-up = silence.silent-given-up n good;
+  others-do-not-show = others.others-do-not-show n good;
+  others-do-not-show-sharp = others.others-do-not-show-sharp n good;
 }

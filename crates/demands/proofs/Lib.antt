@@ -34,4 +34,5 @@ pub mod NeverMade
 pub mod Folds
 pub mod Seats
 pub mod Shuffled
+pub mod Others
 pub mod Demands

@@ -150,7 +150,7 @@ module _ (n : ℕ) (pos : Slots n) (k : Kind) (K : Key) (P : List ℕ) (parts : 
       go (reading.gives (single start)) = next
       go (reading.gives (part X total number start)) = by-key X total number start (alike? X K)
 
-  sound-next : (q : History) → Kept n k (q .store) → (c : Event) → Proper c → Kept n k (historyBy n k K q c .store)
+  pub sound-next : (q : History) → Kept n k (q .store) → (c : Event) → Proper c → Kept n k (historyBy n k K q c .store)
   sound-next q w (takes c) p = sound-call q w c p
   sound-next q w (beats limit) p = kept-beat n pos k (admits k) (q .store) w limit p
 
@@ -160,7 +160,7 @@ module _ (n : ℕ) (pos : Slots n) (k : Kind) (K : Key) (P : List ℕ) (parts : 
   rest : (q : History) (c : Event) (cs : List Event) → All q (c ∷ cs) → All (historyBy n k K q c) cs
   rest q c cs f u d v e = f (c ∷ u) d v (ap (λ (l : List Event). c ∷ l) e)
 
-  one-event : (q : History) → Kept n k (q .store) → (c : Event) (cs : List Event) → Proper c → PhaseOf q → All q (c ∷ cs)
+  pub one-event : (q : History) → Kept n k (q .store) → (c : Event) (cs : List Event) → Proper c → PhaseOf q → All q (c ∷ cs)
       → HereBy n k K (length parts) (Served n k K P parts) q c × PhaseOf (historyBy n k K q c)
   one-event q w (takes c) cs p ph f = one-call q w c p ph (f [] c cs refl)
   one-event q w (beats limit) cs p ph f = (tt, one-beat q w limit ph)
@@ -252,7 +252,7 @@ fewer-in-time limits few = go limits 0 (λ limit e. omega (arith, few limit e))
         either l (other p q) e = rw p e
 
 module _ (n : ℕ) (pos : Slots n) (k : Kind) (K : Key) (P : List ℕ) (parts : List (List ℕ)) where
-  sharper : (cells : List ℕ) (earlier calls : List Event) → Start n k K P parts FewerThanLeast cells earlier calls → Start n k K P parts InTime cells earlier calls
+  pub sharper : (cells : List ℕ) (earlier calls : List Event) → Start n k K P parts FewerThanLeast cells earlier calls → Start n k K P parts InTime cells earlier calls
   sharper cells earlier calls st = record {
     formed = st .formed;
     cut = st .cut;

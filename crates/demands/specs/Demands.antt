@@ -16,6 +16,7 @@ use Rattle.demands.specs.Always.{AlwaysFormed, NoKeyTwice}
 use Rattle.demands.specs.Reachable.{Acceptance, RefusedIfNeverMade}
 use Rattle.demands.specs.Crowding.{NeverDisplaced}
 use Rattle.demands.specs.Silence.{Beating, SilentGivenUp}
+use Rattle.demands.specs.Others.{OthersDoNotShow}
 use Rattle.demands.specs.SplitTaken.{MessagesArrive, PagesArrive}
 use Rattle.demands.specs.Delivery.{MessagesDelivered, PagesDelivered, MessagesWritten, PagesWritten}
 use Rattle.demands.specs.Reports.{ReportRefusals, NoneLost, NoneLostEither, EditionsAlike, EitherAccepted}
@@ -81,6 +82,7 @@ pub record Demand2 : Type 0 where
 -- than the least limit used" (02 [6]), and the same with the sharper premise that the i-th beat has a limit above i; and "at no moment does one
 -- key occupy two slots". No series is displaced while at most n keys are unfinished. A beat gives up what is dead: after as many beats as the
 -- limit and no touch, the key is held no more.
+-- than the least limit used" (02 [6]), and the same with the sharper premise that the i-th beat has a limit above i; and "at no moment does one key occupy two slots". No series is displaced while at most n keys are unfinished. Within the window others do not show (02 [11]).
 pub record Demand3 (n : ℕ) : Type 0 where
   pub wake-window : (k : Kind) (K : Key) (P : List ℕ) (parts : List (List ℕ)) → WakeWindow n k K P parts FewerThanLeast
   pub packet-comes : (k : Kind) (K : Key) (P : List ℕ) (parts : List (List ℕ)) → PacketComes n k K P parts FewerThanLeast
@@ -91,3 +93,5 @@ pub record Demand3 (n : ℕ) : Type 0 where
   pub never-displaced : (k : Kind) → NeverDisplaced n k
   pub beating : Beating n
   pub silent-given-up : SilentGivenUp n
+  pub others-do-not-show : OthersDoNotShow n FewerThanLeast
+  pub others-do-not-show-sharp : OthersDoNotShow n InTime

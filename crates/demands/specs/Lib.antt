@@ -21,3 +21,4 @@ pub mod SplitTaken
 pub mod Delivery
 pub mod Reports
 pub mod Shuffled
+pub mod Others
