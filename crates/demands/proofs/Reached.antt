@@ -19,14 +19,14 @@ use Rattle.types.specs.Refusals as reading
 use Rattle.packet.specs.Packets.{mostOctets}
 use Rattle.types.specs.declared.Key.{Key}
 use Rattle.types.specs.declared.Slot.{Slot}
-use Rattle.arrival.specs.Arrivals.{Brought, single, part}
+use Rattle.arrival.specs.Arrivals.{part}
 use Rattle.header.specs.Header.{elementsAfter, summary}
 use Rattle.arrival.specs.Message.{judged, readMessage}
 use Rattle.slots.specs.Below.{allBelow}
 use Rattle.slots.specs.BelowLaws.{all-at, count-at-most}
 use Rattle.slots.specs.RankLaws.{hasRank, rank-bound, ranks-differ, Aged, free, moves, yields, stays, aged?}
 use Rattle.slots.specs.FrontLaws.{front-here, front-there}
-use Rattle.slots.specs.Slots.{slotAt, opened, atRank, atFront, withPart, withSlots, sameKey, aged, agedSlot, toFront}
+use Rattle.slots.specs.Slots.{slotAt, opened, atRank, atFront, withPart, withSlots, aged, agedSlot, toFront}
 use Rattle.formed.specs.Laws.{Formed, array-holds}
 use Rattle.series.specs.Cells.{cellsSize}
 use Rattle.series.specs.Taking as Taking
@@ -35,15 +35,15 @@ use Rattle.series.specs.CaseLaws.{Lacks, Case, other-total, other-octets, held-
 use Rattle.series.specs.Calls.{Input, octetsOf, read}
 use Rattle.demands.specs.Examples.{M}
 use Rattle.demands.specs.Lists.{elemKey, addKey}
-use Rattle.demands.specs.Runs.{Slots, Call, Event, takes, beats, Store, fresh, outcome, left, leftBy, run, ProperCall, Proper}
+use Rattle.demands.specs.Runs.{Slots, Call, Event, takes, Store, fresh, outcome, left, run, ProperCall, Proper}
 use Rattle.demands.specs.Wake as window
-use Rattle.demands.specs.Wake.{in-messages, History, InTime, historyAfter, historyBy, counts, follow, Fair, begin}
+use Rattle.demands.specs.Wake.{in-messages, History, InTime, historyBy, counts, follow, Fair, begin}
 use Rattle.demands.specs.Reached as reached
 use Rattle.demands.specs.Reached.{key, halves, callFrom, first, second, strangers, crowd, cells, Met, Missed, longest, longestPaged, asMessage, asPage, inOrder, Longest}
 use Rattle.demands.specs.SplitTaken.{listed, keyUnder}
 use Rattle.demands.specs.Delivery.{Brings, nothing-more, next}
 use Rattle.demands.proofs.Calls.{isPage, taking, fresh-free, Kept, kept-proper, kept-fresh}
-use Rattle.demands.proofs.Along.{All, each, Here, Along, each-with}
+use Rattle.demands.proofs.Along.{All, each, Here, Along, each-with, store-run}
 use Rattle.demands.proofs.Written.{and, small-octets, zero-small}
 use Rattle.demands.proofs.Wake.{admits, wake-window}
 use Rattle.demands.proofs.Delivery.{messages-delivered, pages-delivered}
@@ -240,7 +240,7 @@ module _ (n : ℕ) (good : Slots n) (b : ℕ) where
   unfolding elementsAfter summary judged readMessage
   reads-second = refl
 
-  reads-other : (sender : ℕ) → read Command (reached.stranger b sender .input) ≡ reading.gives (part (keyOf sender) 2 2 6)
+  pub reads-other : (sender : ℕ) → read Command (reached.stranger b sender .input) ≡ reading.gives (part (keyOf sender) 2 2 6)
   unfolding elementsAfter summary judged readMessage
   reads-other sender = refl
 
@@ -374,7 +374,7 @@ module _ (n : ℕ) (good : Slots n) (b : ℕ) where
 
   pub met : Met n b
   unfolding allBelow
-  met = record { start = starts; comes = ap (λ (st : Store). outcome n st (second b) .answer) (sym (store-run (crowd b (n - 1)) w₀)) ∙ handed served }
+  met = record { start = starts; comes = ap (λ (st : Store). outcome n st (second b) .answer) (sym (store-run n Command key (crowd b (n - 1)) w₀)) ∙ handed served }
     where
       q : History
       q = follow n Command key w₀ (crowd b (n - 1))
