@@ -23,7 +23,7 @@ use Rattle.demands.specs.Runs.{Slots, Event, Store, fresh, leftBy, run}
 use Rattle.demands.specs.Reachable.{KeysFit, Possible, Acceptance}
 use Rattle.demands.proofs.Along.{All, each}
 use Rattle.demands.proofs.Calls.{Kept, kept-fresh, always-formed}
-use Rattle.demands.proofs.Reached.{run-more}
+use Rattle.demands.proofs.Along.{run-more}
 use Rattle.demands.proofs.Wake.{admits}
 use Rattle.demands.proofs.Weights.{weight, weight-most, weight-falls}
 use Rattle.demands.proofs.Away.{free-is, none-holds}

@@ -59,11 +59,6 @@ octets-of l e i = go (ltb i (length l)) refl
 pub same-part : {K₁ K₂ : Key} {t₁ t₂ m₁ m₂ s₁ s₂ : ℕ} → reading.gives (part K₁ t₁ m₁ s₁) ≡ reading.gives (part K₂ t₂ m₂ s₂) → (K₁ ≡ K₂) × (t₁ ≡ t₂) × (m₁ ≡ m₂) × (s₁ ≡ s₂)
 same-part e = (cc, cc, cc, cc)
 
--- two runs, one after the other
-pub run-more : (n : ℕ) (u v : List Event) (st : Store) → run n st (u ++ v) ≡ run n (run n st u) v
-run-more n [] v st = refl
-run-more n (c ∷ u) v st = run-more n u v (leftBy n st c)
-
 -- a key that is put in is one more at most
 add-most : (X : Key) (l : List Key) → length (addKey X l) ≤ suc (length l)
 add-most X l = go (elemKey X l)
@@ -340,24 +335,6 @@ module _ (n : ℕ) (good : Slots n) (b : ℕ) where
   proper-rest : (m sender : ℕ) → All Proper (strangers b sender m ++ takes (second b) ∷ [])
   proper-rest zero sender = (proper-second, tt)
   proper-rest (suc m) sender = (proper-other sender, proper-rest m (suc sender))
-
-  -- what is seen has the store that the calls leave
-  store-seen : (q : History) (c : Call) → seen q c .store ≡ left (outcome n (q .store) c)
-  store-seen q c = by-reading (read Command (c .input))
-    where
-      by-key : (t : Bool) (x y : History) → x .store ≡ left (outcome n (q .store) c) → y .store ≡ left (outcome n (q .store) c) → cond t x y .store ≡ left (outcome n (q .store) c)
-      by-key true x y e f = e
-      by-key false x y e f = f
-
-      by-reading : (r : reading.Outcome Brought) → historyAfter n Command key q (outcome n (q .store) c) r .store ≡ left (outcome n (q .store) c)
-      by-reading (reading.refused m) = refl
-      by-reading (reading.gives (single start)) = refl
-      by-reading (reading.gives (part X total number start)) = by-key (sameKey X key) _ _ refl refl
-
-  pub store-run : (calls : List Event) (q : History) → follow n Command key q calls .store ≡ run n (q .store) calls
-  store-run [] q = refl
-  store-run (takes c ∷ cs) q = store-run cs (seen q c) ∙ ap (λ (st : Store). run n st cs) (store-seen q c)
-  store-run (beats limit ∷ cs) q = store-run cs (historyBy n Command key q (beats limit))
 
   starts : window.Start n Command key M halves InTime (cells n b) [] (crowd b (n - 1) ++ takes (second b) ∷ [])
   starts = record {

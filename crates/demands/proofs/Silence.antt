@@ -41,9 +41,9 @@ use Rattle.demands.specs.Silence as silent
 use Rattle.demands.specs.Silence.{BeatRefuses, BeatDoes, Beating, Untouched, beatsWithin, silence, SilentGivenUp, MetInTime, MissedTooLate, OnTheLimit}
 use Rattle.demands.proofs.Calls.{isPage, taking, fresh-free, Kept, Beat, no-beat, is-beat, beat?, beat-is, kept-beat, kept-by, kept-fresh}
 use Rattle.demands.proofs.Track.{key-there, used-before}
-use Rattle.demands.proofs.Along.{All, each, Along, each-with}
+use Rattle.demands.proofs.Along.{All, each, Along, each-with, store-run}
 use Rattle.demands.proofs.Wake.{admits, wake-window-least}
-use Rattle.demands.proofs.Reached.{same-part, proper-first, proper-second, reads-first, reads-second, store-run}
+use Rattle.demands.proofs.Reached.{same-part, proper-first, proper-second, reads-first, reads-second}
 
 -- ---- one beat
 module _ (n : ℕ) (r : Record) (limit : ℕ) where
@@ -447,7 +447,7 @@ module _ (n : ℕ) (pos : Slots n) (b limit : ℕ) (low : 0 < limit) (high : lim
   unfolding allBelow
   met-in-time = record {
     start = starts;
-    comes = ap (λ (st : Store). outcome n st (second b) .answer) (sym (store-run n pos b (takes (first b) ∷ silence limit (limit - 1)) w₀))
+    comes = ap (λ (st : Store). outcome n st (second b) .answer) (sym (store-run n Command key (takes (first b) ∷ silence limit (limit - 1)) w₀))
         ∙ handed (wake-window-least n pos Command key M halves (cells n b) [] calls starts (takes (first b) ∷ silence limit (limit - 1)) (second b) [] refl 2 2 6 (reads-second n pos b) (rw (waits-then .arrived)));
   }
 
