@@ -1,26 +1,26 @@
 -- What the proofs of the beat cite: one law for each return, call and turn of the loop, over plain variables.
-use Prim.Native.Nat.{ℕ, suc, _+_, _-_, _≤_, _<_}
+use Prim.Native.Nat.{ℕ, _+_, _-_, _≤_, _<_}
 use mathlib.Core.Path.{_≡_, refl, sym, _∙_}
 use mathlib.Core.Bool.{Bool, true, false, not, cond, _&&_}
 use native.Mathlib.Omega.{arith}
 use native.Mathlib.Numerals.{add-one}
 use lib.ListN.{length, set, length-set}
-use lib.Dec.{eqb, leb}
+use lib.Dec.{leb}
 use mir.Syntax.{w8}
 use mir.Val.{Fits, boolByte}
 use borrow.Author.Needs.{needs}
-use borrow.Author.Tests.{eq-eqb, ne-eqb, leb-true, leb-false, le-leb, lt-leb, not-true}
-use Rattle.octets.specs.Tests.{Same, same, other, same?, clash}
+use borrow.Author.Tests.{eq-eqb, ne-eqb, le-leb, lt-leb}
+use Rattle.octets.specs.Tests.{clash}
 use Rattle.types.specs.declared.Slot.{Slot}
 use Rattle.types.specs.declared.Record.{Record}
 use Rattle.types.specs.Refusals.{refused, gives}
 use Rattle.slots.specs.Below.{countBelow}
-use Rattle.slots.specs.BelowLaws.{count-more, count-at-most}
+use Rattle.slots.specs.BelowLaws.{count-more}
 use Rattle.slots.specs.Slots.{mostSlots, slotAt, used, freeSlot, atCount, withSlots}
 use Rattle.slots.specs.Found.{length-of-map}
 use Rattle.slots.specs.Order.{firstWith, first-next, first-more, first-whole, Changed}
 use Rattle.formed.specs.Formed.{recordFormed}
-use Rattle.beats.specs.Beats.{raised, reached, afterBeat, droppedBy, beaten, beat}
+use Rattle.beats.specs.Beats.{raised, reached, afterBeat, beaten, beat}
 use Rattle.beats.specs.Laws.{Beaten, free, drops, stays, beaten?}
 
 -- ---- one slot

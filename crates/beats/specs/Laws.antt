@@ -1,19 +1,19 @@
 -- What a beat does to each slot; and that it leaves a well-formed record well formed.
-use Prim.Native.Nat.{ℕ, suc, _+_, _≤_, _<_}
+use Prim.Native.Nat.{ℕ, suc, _≤_, _<_}
 use mathlib.Core.Path.{_≡_, refl, sym, ap, _∙_}
-use mathlib.Core.Bool.{Bool, true, false, not, cond, _&&_}
+use mathlib.Core.Bool.{Bool, true, false, cond}
 use mathlib.Core.List.{List, [], map}
 use native.Mathlib.Omega.{arith}
 use lib.ListN.{length, getD, length-map, List·getD-map}
-use lib.Dec.{eqb, leb}
-use borrow.Author.Tests.{eq-eqb, ne-eqb, leb-true, leb-false, le-leb, lt-leb}
-use Rattle.octets.specs.Tests.{clash, Same, same, other, same?}
+use lib.Dec.{leb}
+use borrow.Author.Tests.{leb-true, leb-false, le-leb, lt-leb}
+use Rattle.octets.specs.Tests.{Same, same, other, same?}
 use Rattle.types.specs.declared.Kind.{Kind}
 use Rattle.types.specs.declared.Slot.{Slot}
-use Rattle.slots.specs.Slots.{mostSlots, noKey, slotAt, used, freeSlot, atCount}
+use Rattle.slots.specs.Slots.{noKey, slotAt, used, freeSlot, atCount}
 use Rattle.slots.specs.RankLaws.{ranks-differ, stay-ranked}
-use Rattle.formed.specs.Formed.{mostBeats, slotFormed}
-use Rattle.formed.specs.Laws.{Formed, UsedSlot, slot-tells, slot-told, free-slot-formed}
+use Rattle.formed.specs.Formed.{slotFormed}
+use Rattle.formed.specs.Laws.{Formed, slot-tells, slot-told, free-slot-formed}
 use Rattle.beats.specs.Beats.{raised, reached, afterBeat, slotsAfterBeat}
 
 -- ---- one slot

@@ -8,9 +8,7 @@ use types::Refusal;
 use types::SLOTS;
 use types::Slot;
 ghost use mathlib.Core.Path.{_≡_};
-ghost use Prim.Native.Nat.{_<_, suc};
-ghost use lib.Dec.{leb};
-ghost use mathlib.Core.Bool.{_&&_};
+ghost use Prim.Native.Nat.{_<_};
 ghost use Rattle.beats.specs.Beats as rule;
 ghost use Rattle.beats.specs.Beats.{raised, reached, afterBeat, beaten, toldBeating};
 

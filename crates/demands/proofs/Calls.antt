@@ -23,7 +23,7 @@ use Rattle.formed.specs.Formed.{recordFormed}
 use Rattle.formed.specs.Laws.{Formed, formed-told, fresh-slot, fresh-formed}
 use Rattle.series.specs.Cells.{cellsSize}
 use Rattle.series.specs.Taking.{State, After, state, refuse, unfit, taken, takeMessage, takePage}
-use Rattle.beats.specs.Beats.{AfterBeat, beaten, slotsAfterBeat, droppedBy, beating, leavesBeat, beat}
+use Rattle.beats.specs.Beats.{AfterBeat, beaten, slotsAfterBeat, droppedBy, leavesBeat, beat}
 use Rattle.beats.specs.Laws.{beat-formed}
 use Rattle.series.specs.KeepLaws.{Sound, taken-sound, taken-kind}
 use Rattle.series.specs.Calls.{Input, message, page, octetsOf, read, takeInput}

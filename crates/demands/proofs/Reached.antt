@@ -26,7 +26,7 @@ use Rattle.slots.specs.Below.{allBelow}
 use Rattle.slots.specs.BelowLaws.{all-at, count-at-most}
 use Rattle.slots.specs.RankLaws.{hasRank, rank-bound, ranks-differ, Aged, free, moves, yields, stays, aged?}
 use Rattle.slots.specs.FrontLaws.{front-here, front-there}
-use Rattle.slots.specs.Slots.{slotAt, opened, atRank, atFront, withPart, withSlots, aged, agedSlot, toFront}
+use Rattle.slots.specs.Slots.{slotAt, opened, atFront, withPart, withSlots, aged, agedSlot, toFront}
 use Rattle.formed.specs.Laws.{Formed, array-holds}
 use Rattle.series.specs.Cells.{cellsSize}
 use Rattle.series.specs.Taking as Taking

@@ -2,12 +2,12 @@
 -- it comes to the front with that part, whether it was kept or held already; two parts of different numbers do not see one another.
 use Prim.Native.Nat.{ℕ, zero, suc, _+_, _-_, _≤_, _<_}
 use mathlib.Core.Path.{_≡_, refl, sym, ap, _∙_, subst}
-use mathlib.Core.Bool.{Bool, true, false, not, cond, _&&_, _||_, or-true}
+use mathlib.Core.Bool.{Bool, true, false, not, cond, _&&_, _||_}
 use mathlib.Core.Logic.{inr}
 use mathlib.Core.List.{List, [], _∷_, map}
 use mathlib.Core.Option.{Option, none, some}
 use native.Mathlib.Omega.{arith}
-use lib.ListN.{length, getD, set, take, drop, length-drop, length-replicate, getD-replicate, take-append-drop}
+use lib.ListN.{length, set, take, drop, length-drop, length-replicate, getD-replicate, take-append-drop}
 use lib.Seq.{getD-set-same, getD-set-other, set-getD, set-set, set-comm, length-take-le, drop-drop}
 use lib.Dec.{eqb, ltb}
 use borrow.Author.Tests.{eq-eqb, ne-eqb, eqb-false, ltb-true, ltb-false, not-true}
@@ -26,16 +26,16 @@ use Rattle.arrival.specs.Laws.{Admitted}
 use Rattle.joined.specs.Fronts.{packetIn}
 use Rattle.slots.specs.Below.{allBelow}
 use Rattle.slots.specs.BelowLaws.{all-at, all-fails}
-use Rattle.slots.specs.Slots.{slotAt, opened, used, sameKey, bears, isFree, findIn, isLeastRecent, slotOr, leastRecent, heldAt, lengthAt, withPart, atRank, atFront, aged, agedSlot, toFront, freed, withSlots}
+use Rattle.slots.specs.Slots.{slotAt, opened, used, sameKey, bears, isFree, findIn, isLeastRecent, slotOr, leastRecent, heldAt, lengthAt, withPart, atFront, aged, agedSlot, toFront, freed, withSlots}
 use Rattle.slots.specs.RankLaws.{Aged, free, moves, yields, stays, aged?, pos-taken, last-rank}
 use Rattle.slots.specs.FrontLaws.{front-here, same-key, key-same, FoundIn, hit-in, miss-in, find-in?}
 use Rattle.formed.specs.Formed.{markAt}
-use Rattle.formed.specs.Laws.{Formed, UsedSlot, slot-tells, array-holds}
-use Rattle.series.specs.Cells.{cellOctets, cellsSize, cellAt, cellPart, joinedOctets}
+use Rattle.formed.specs.Laws.{Formed, slot-tells, array-holds}
+use Rattle.series.specs.Cells.{cellOctets, cellAt, cellPart, joinedOctets}
 use Rattle.series.specs.CellLaws.{cell-inside, cell-here, cell-there}
 use Rattle.series.specs.CaseLaws.{Bears}
 use Rattle.series.specs.PartLaws.{total-bounds, ready-opened}
-use Rattle.series.specs.KeepLaws.{Sound, short, part-sound, taken-kind}
+use Rattle.series.specs.KeepLaws.{short, part-sound, taken-kind}
 use Rattle.series.specs.Taking.{State, After, Answer, kept, heldAlready, packet, refusedBy, state, after, handOut, Step, refuses, repeats, keeps, finishes, completes, step, acted, takePart}
 use Rattle.demands.specs.Runs.{Store, left}
 use Rattle.demands.specs.Shuffled.{notComplete, unmarked, repeated}

@@ -2,29 +2,25 @@
 -- when it comes again, two parts change places, and whole orders lead to the same (`Folds`).
 use Prim.Native.Nat.{ℕ}
 use mathlib.Core.Path.{_≡_, refl, sym, ap, _∙_, subst}
-use mathlib.Core.Bool.{Bool, true, false, cond, _&&_, _||_}
+use mathlib.Core.Bool.{Bool, true, false, cond}
 use mathlib.Core.List.{List, [], _∷_}
 use native.Mathlib.Omega.{arith}
-use lib.ListN.{length}
 use lib.Dec.{eqb}
 use borrow.Author.Tests.{eqb-true}
 use Rattle.octets.specs.Tests.{both, both-hold, Same, same, other, same?}
 use Rattle.types.specs.declared.Kind.{Kind}
 use Rattle.types.specs.declared.Key.{Key}
-use Rattle.types.specs.declared.Record.{Record}
 use Rattle.arrival.specs.Laws.{Admitted}
-use Rattle.slots.specs.Slots.{slotAt}
 use Rattle.formed.specs.Formed.{slotsFormed}
 use Rattle.formed.specs.Laws.{formed-tells}
-use Rattle.series.specs.CaseLaws.{Bears}
-use Rattle.series.specs.Taking.{After, Answer, kept, heldAlready, packet, refusedBy, state, after, takePart}
+use Rattle.series.specs.Taking.{After, Answer, kept, heldAlready, packet, refusedBy, state, after}
 use Rattle.demands.specs.Lists.{elem}
 use Rattle.demands.specs.Runs.{Call, Store, outcome, left}
 use Rattle.demands.specs.Shuffled.{AnyStore, BringsPart, KeptThenHeld, Exchanged, EitherOrder, answersOf, leftAfter, notComplete, noneComplete, unmarked, repeated, answeredBehind, BringInOrder, none-brought, first-brought, allAnswered, Names, AllName, Shuffled, AnyOrder}
 use Rattle.demands.proofs.Calls.{Kept, taking}
 use Rattle.demands.proofs.Wake.{admits}
 use Rattle.demands.proofs.Folds as folds
-use Rattle.demands.proofs.Seats.{asked, May, Again, Swap, next, answerTo, again, swap, any-output, kept-total, kept-asked, Said, OneSeat, one-seat, seat-of, kept-bears}
+use Rattle.demands.proofs.Seats.{asked, May, next, answerTo, again, swap, any-output, kept-total, kept-asked, Said, OneSeat, one-seat, seat-of, kept-bears}
 
 -- ---- what is left of an answer behind other parts
 behind-again : (b : Bool) (a : Answer) → repeated (cond b (repeated a) (unmarked a)) ≡ repeated a

@@ -8,7 +8,7 @@ use mathlib.Core.List.{List, [], _∷_, _++_}
 use native.Mathlib.Omega.{arith}
 use lib.ListN.{length, drop, length-replicate}
 use lib.Dec.{eqb, ltb, leb}
-use borrow.Author.Tests.{eq-eqb, ne-eqb, eqb-true, ltb-true, ltb-false, leb-true, leb-false}
+use borrow.Author.Tests.{eq-eqb, ne-eqb, eqb-true, ltb-true, ltb-false, leb-true}
 use Rattle.octets.specs.Tests.{clash, both, Same, same, other, same?}
 use Rattle.types.specs.declared.Kind.{Kind}
 use Rattle.types.specs.declared.Kind.the-variants.{Command}
@@ -37,7 +37,6 @@ use Rattle.demands.specs.Runs.{Slots, Call, Event, takes, beats, ProperC
 use Rattle.demands.specs.Wake as window
 use Rattle.demands.specs.Wake.{History, FewerThanLeast, counts, Start, begin, historyBy, follow, Fair}
 use Rattle.demands.specs.Reached.{key, halves, first, second, cells}
-use Rattle.demands.specs.Silence as silent
 use Rattle.demands.specs.Silence.{BeatRefuses, BeatDoes, Beating, Untouched, beatsWithin, silence, SilentGivenUp, MetInTime, MissedTooLate, OnTheLimit}
 use Rattle.demands.proofs.Calls.{isPage, taking, fresh-free, Kept, Beat, no-beat, is-beat, beat?, beat-is, kept-beat, kept-by, kept-fresh}
 use Rattle.demands.proofs.Track.{key-there, used-before}

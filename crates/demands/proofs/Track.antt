@@ -16,9 +16,9 @@ use Rattle.types.specs.declared.Key.{Key}
 use Rattle.arrival.specs.Message.{mostParts}
 use Rattle.arrival.specs.Keys.{lengthFits}
 use Rattle.types.specs.declared.Slot.{Slot}
-use Rattle.slots.specs.Slots.{slotAt, atRank, atFront, heldAt, lengthAt, withPart, aged, closed, toFront}
+use Rattle.slots.specs.Slots.{slotAt, atRank, atFront, heldAt, lengthAt, withPart, toFront}
 use Rattle.formed.specs.Formed.{markAt, sizeAt}
-use Rattle.slots.specs.RankLaws.{Aged, free, moves, yields, stays, aged?, closed-near, closed-far, pos-taken}
+use Rattle.slots.specs.RankLaws.{pos-taken}
 use Rattle.slots.specs.FrontLaws.{front-here}
 use Rattle.formed.specs.Laws.{UsedSlot}
 use Rattle.series.specs.Cells.{cellOctets, cellsSize, cellAt, cellPart}

@@ -22,7 +22,7 @@ use Rattle.arrival.specs.Laws.{Admitted}
 use Rattle.joined.specs.Fronts.{packetIn}
 use Rattle.types.specs.declared.Slot.{Slot}
 use Rattle.slots.specs.BelowLaws.{all-at, all-same, count-at-most}
-use Rattle.slots.specs.Slots.{slotAt, opened, used, atRank, atFront, heldAt, lengthAt, withPart, withSlots, aged, closed, toFront, freed}
+use Rattle.slots.specs.Slots.{slotAt, opened, used, atFront, heldAt, lengthAt, withPart, withSlots, aged, closed, toFront, freed}
 use Rattle.formed.specs.Formed.{markAt}
 use Rattle.slots.specs.RankLaws.{hasRank, pos-taken, aged-taken, aged-mono, closed-taken, closed-mono, rank-bound, ranks-differ}
 use Rattle.slots.specs.FrontLaws.{front-here, front-there, freed-here, freed-there}

@@ -22,7 +22,7 @@ use Rattle.series.specs.Calls.{message}
 use Rattle.split.specs.Splitting as split
 use Rattle.report.specs.Reporting.{nothingGoes, inReport, announced, submitted, presentEdition, Reported, reported, writeReport, responseAnnounces}
 use Rattle.report.specs.Laws.{Asked, Unasked}
-use Rattle.demands.specs.Runs.{Call, Event, takes, fresh, outcome, run, Proper, Each}
+use Rattle.demands.specs.Runs.{Call, Event, fresh, outcome, run, Proper, Each}
 use Rattle.demands.specs.SplitTaken.{keyUnder}
 use Rattle.demands.specs.Delivery.{Delivered}
 

@@ -15,7 +15,7 @@ use Rattle.series.specs.Cells.{cellsSize}
 use Rattle.series.specs.Taking.{Answer, kept, heldAlready, packet, refusedBy, after}
 use Rattle.series.specs.Calls.{read, octetsOf}
 use Rattle.demands.specs.Lists.{elem}
-use Rattle.demands.specs.Runs.{Call, Event, takes, Store, outcome, left, run, ProperCall}
+use Rattle.demands.specs.Runs.{Call, takes, Store, outcome, left, run, ProperCall}
 
 -- ---- what it is said of
 -- a well-formed record of n slots and that kind, and cells of its length

@@ -16,7 +16,7 @@ use Rattle.series.specs.CaseLaws.{Lacks}
 use Rattle.series.specs.Calls.{Input, message, page}
 use Rattle.split.specs.Splitting as split
 use Rattle.demands.specs.Lists.{complete}
-use Rattle.demands.specs.Runs.{Call, Event, takes, fresh, run, Proper, Each}
+use Rattle.demands.specs.Runs.{Call, Event, fresh, run, Proper, Each}
 use Rattle.demands.specs.Wake.{History, InTime, begin, follow, EachWith, Comes}
 
 -- f 1, f 2, .. f t

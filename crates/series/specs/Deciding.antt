@@ -23,7 +23,7 @@ use Rattle.series.specs.declared.take.Change.{Change}
 use Rattle.series.specs.declared.take.Step.the-variants.{Refuses, Repeats, Keeps, Finishes}
 use Rattle.slots.specs.declared.find.Seat.{Seat}
 use Rattle.slots.specs.Below.{allBelow}
-use Rattle.slots.specs.Slots.{slotAt, atRank, atFront, noKey, freeSlot, slotsIn, freshRecord}
+use Rattle.slots.specs.Slots.{slotAt, atFront, noKey, freeSlot, slotsIn, freshRecord}
 use Rattle.slots.specs.Found.{seatOf}
 use Rattle.slots.specs.Order.{replaced}
 use Rattle.series.specs.Cells.{cellOctets, joinedOctets}

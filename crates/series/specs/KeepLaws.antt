@@ -18,7 +18,7 @@ use Rattle.arrival.specs.Laws.{Admitted}
 use Rattle.joined.specs.Fronts.{packetIn}
 use Rattle.types.specs.declared.Slot.{Slot}
 use Rattle.types.specs.declared.Record.{Record}
-use Rattle.slots.specs.Slots.{slotAt, opened, atRank, atFront, withPart, heldAt, freed, withSlots}
+use Rattle.slots.specs.Slots.{slotAt, opened, atFront, withPart, heldAt, freed, withSlots}
 use Rattle.formed.specs.Formed.{slotFormed}
 use Rattle.formed.specs.Laws.{Formed, UsedSlot, slot-tells, slot-front, front-formed, free-formed}
 use Rattle.series.specs.PartLaws.{total-bounds, ready-held, ready-opened, part-more}
