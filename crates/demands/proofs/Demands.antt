@@ -1,7 +1,7 @@
--- The three demands hold, for each number of slots.
+-- The three demands hold, for each number of slots, and what was asked of order and repetition.
 use Prim.Native.Nat.{ℕ}
 use Rattle.demands.specs.Runs.{Slots}
-use Rattle.demands.specs.Demands.{Demand1, Demand2, Demand3}
+use Rattle.demands.specs.Demands.{Demand1, Demand2, Demand3, OrderAndRepetition}
 use Rattle.demands.proofs.Calls as calls
 use Rattle.demands.proofs.Wake as wake
 use Rattle.demands.proofs.Crowding as crowding
@@ -17,6 +17,7 @@ use Rattle.demands.proofs.Delivery as delivery
 use Rattle.demands.proofs.Reports as reports
 use Rattle.demands.proofs.Reachable as reachable
 use Rattle.demands.proofs.NeverMade as never
+use Rattle.demands.proofs.Shuffled as shuffled
 
 pub demand-1 : Demand1
 demand-1 = record {
@@ -86,3 +87,6 @@ demand-3 n good = record {
   others-do-not-show = others.others-do-not-show n good;
   others-do-not-show-sharp = others.others-do-not-show-sharp n good;
 }
+
+pub order-and-repetition : (n : ℕ) → OrderAndRepetition n
+order-and-repetition n = record { kept-then-held = shuffled.kept-then-held n; either-order = shuffled.either-order n; any-order = shuffled.any-order n }

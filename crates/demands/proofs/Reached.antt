@@ -49,7 +49,7 @@ use Rattle.demands.proofs.Wake.{admits, wake-window}
 use Rattle.demands.proofs.Delivery.{messages-delivered, pages-delivered}
 
 -- ---- the premises
-octets-of : (l : List ℕ) → allBelow (length l) (λ i. ltb (getD l i 0) 256) ≡ true → Octets l
+pub octets-of : (l : List ℕ) → allBelow (length l) (λ i. ltb (getD l i 0) 256) ≡ true → Octets l
 octets-of l e i = go (ltb i (length l)) refl
   where
     go : (t : Bool) → ltb i (length l) ≡ t → getD l i 0 < 256

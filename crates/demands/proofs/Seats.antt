@@ -125,6 +125,10 @@ missing-told x a e =
 missing-open : (x : Slot) (a : ℕ) → Missing x a → completes x a ≡ false
 missing-open x a m = fails (x .total) (λ i. eqb (i + 1) a || markAt x i) (m .place) (m .below) (rw (ne-eqb (m .place + 1) a (m .apart)) (m .empty))
 
+-- ---- an answer that names a slot names this one, and one that says "kept" has this mark
+abbrev pub Said : ℕ → Bool → Answer → Type 0
+Said slot mark a = elim a [ kept i d ↦ (i ≡ slot) × (d ≡ mark) | heldAlready i ↦ i ≡ slot | packet m ↦ Unit {0} | refusedBy m ↦ Unit {0} ]
+
 -- ---- one key, one total
 module _ (n : ℕ) (k : Kind) (K : Key) (t : ℕ) where
   abbrev pub asked : Store → List ℕ → ℕ → List ℕ → After
@@ -651,10 +655,6 @@ module _ (n : ℕ) (k : Kind) (K : Key) (t : ℕ) where
           does st w i d x seat m o p v op ∙ sym (ap (λ (z : After). after (z .answer) (z .state .rec) (z .state .cells) v) (does st w i d x seat m o p u op))
 
   -- ---- all answers name one slot, and all that say "kept" have one mark
-  module _ (slot : ℕ) (mark : Bool) where
-    abbrev pub Said : Answer → Type 0
-    Said a = elim a [ kept i d ↦ (i ≡ slot) × (d ≡ mark) | heldAlready i ↦ i ≡ slot | packet m ↦ Unit {0} | refusedBy m ↦ Unit {0} ]
-
   pub data OneSeat (st : Store) : Type 0 where
     one-seat : (slot : ℕ) (mark : Bool) → ((m : ℕ) (o : List ℕ) → May st m o → Said slot mark (answerTo st m o)) → OneSeat st
 

@@ -2,23 +2,36 @@
 -- when it comes again, two parts change places, and whole orders lead to the same (`Folds`).
 use Prim.Native.Nat.{ℕ}
 use mathlib.Core.Path.{_≡_, refl, sym, ap, _∙_, subst}
-use mathlib.Core.Bool.{Bool, true, false, cond}
+use mathlib.Core.Bool.{Bool, true, false, cond, _||_}
 use mathlib.Core.List.{List, [], _∷_}
 use native.Mathlib.Omega.{arith}
+use lib.ListN.{length-replicate}
 use lib.Dec.{eqb}
 use borrow.Author.Tests.{eqb-true}
 use Rattle.octets.specs.Tests.{both, both-hold, Same, same, other, same?}
 use Rattle.types.specs.declared.Kind.{Kind}
+use Rattle.types.specs.declared.Kind.the-variants.{Command}
 use Rattle.types.specs.declared.Key.{Key}
 use Rattle.arrival.specs.Laws.{Admitted}
-use Rattle.formed.specs.Formed.{slotsFormed}
+use Rattle.formed.specs.Formed.{slotsFormed, allZero, usedFormed, slotFormed, keysDiffer, ranked, countsFollow}
 use Rattle.formed.specs.Laws.{formed-tells}
-use Rattle.series.specs.Taking.{After, Answer, kept, heldAlready, packet, refusedBy, state, after}
+use Rattle.series.specs.Taking.{After, Answer, kept, heldAlready, packet, refusedBy, state, after, step, takePart, takeMessage}
+use Rattle.slots.specs.Below.{allBelow, anyBelow, countBelow}
+use Rattle.slots.specs.Slots.{find, aged, toFront}
+use Rattle.arrival.specs.Keys.{keyFormed, lengthFits}
+use Rattle.arrival.specs.Message.{judged, readMessage}
+use Rattle.header.specs.Header.{elementsAfter, summary}
+use Rattle.octets.specs.Octets.{placed, sameOctets}
+use Rattle.packet.specs.Packets.{mostOctets}
+use Rattle.series.specs.Cells.{cellPart}
+use Rattle.series.specs.Calls.{octetsOf}
 use Rattle.demands.specs.Lists.{elem}
 use Rattle.demands.specs.Runs.{Call, Store, outcome, left}
-use Rattle.demands.specs.Shuffled.{AnyStore, BringsPart, KeptThenHeld, Exchanged, EitherOrder, answersOf, leftAfter, notComplete, noneComplete, unmarked, repeated, answeredBehind, BringInOrder, none-brought, first-brought, allAnswered, Names, AllName, Shuffled, AnyOrder}
+use Rattle.demands.specs.Reached.{key}
+use Rattle.demands.specs.Shuffled.{AnyStore, BringsPart, KeptThenHeld, Exchanged, EitherOrder, answersOf, leftAfter, notComplete, noneComplete, unmarked, repeated, answeredBehind, BringInOrder, none-brought, first-brought, allAnswered, Names, AllName, Shuffled, AnyOrder, occupied, ofThree, oneOrder, otherOrder, ShuffledSo}
 use Rattle.demands.proofs.Calls.{Kept, taking}
 use Rattle.demands.proofs.Wake.{admits}
+use Rattle.demands.proofs.Reached.{octets-of}
 use Rattle.demands.proofs.Folds as folds
 use Rattle.demands.proofs.Seats.{asked, May, next, answerTo, again, swap, any-output, kept-total, kept-asked, Said, OneSeat, one-seat, seat-of, kept-bears}
 
@@ -52,14 +65,14 @@ behind-more [] m a = refl
 behind-more (i ∷ behind) m a = behind-other (elem m (i ∷ behind)) a
 
 -- ---- the slot that answers name
-said-names : (slot : ℕ) (mark : Bool) (n : ℕ) (k : Kind) (K : Key) (t : ℕ) (a : Answer) → Said n k K t slot mark a → (behind : List ℕ) (m : ℕ) → Names slot (answeredBehind behind m a)
-said-names slot mark n k K t (kept i d) s [] m = s .0
-said-names slot mark n k K t (heldAlready i) s [] m = s
-said-names slot mark n k K t (packet p) s [] m = tt
-said-names slot mark n k K t (refusedBy p) s [] m = tt
-said-names slot mark n k K t a s (j ∷ behind) m = go (elem m (j ∷ behind)) a s
+said-names : (slot : ℕ) (mark : Bool) (a : Answer) → Said slot mark a → (behind : List ℕ) (m : ℕ) → Names slot (answeredBehind behind m a)
+said-names slot mark (kept i d) s [] m = s .0
+said-names slot mark (heldAlready i) s [] m = s
+said-names slot mark (packet p) s [] m = tt
+said-names slot mark (refusedBy p) s [] m = tt
+said-names slot mark a s (j ∷ behind) m = go (elem m (j ∷ behind)) a s
   where
-    go : (b : Bool) (a : Answer) → Said n k K t slot mark a → Names slot (cond b (repeated a) (unmarked a))
+    go : (b : Bool) (a : Answer) → Said slot mark a → Names slot (cond b (repeated a) (unmarked a))
     go true (kept i d) s = s .0
     go true (heldAlready i) s = s
     go true (packet p) s = tt
@@ -70,16 +83,16 @@ said-names slot mark n k K t a s (j ∷ behind) m = go (elem m (j ∷ behind)) a
     go false (refusedBy p) s = tt
 
 -- an answer without its mark says "kept"
-unmarked-kept : (n : ℕ) (k : Kind) (K : Key) (t slot : ℕ) (mark : Bool) (a : Answer) → Said n k K t slot mark a → (j : ℕ) (e : Bool) → unmarked a ≡ kept j e
+unmarked-kept : (slot : ℕ) (mark : Bool) (a : Answer) → Said slot mark a → (j : ℕ) (e : Bool) → unmarked a ≡ kept j e
     → (a ≡ kept slot mark) × (j ≡ slot) × (e ≡ false)
-unmarked-kept n k K t slot mark (kept i d) s j e q =
+unmarked-kept slot mark (kept i d) s j e q =
     let p : i ≡ j = cc in
     let r : false ≡ e = cc in
     let x = s .0 in
     let y = s .1 in ((λ z. kept (x z) (y z)), sym p ∙ x, sym r)
-unmarked-kept n k K t slot mark (heldAlready i) s j e q = let z : _≡_ {A = ℕ} 0 1 = cc in absurd (omega arith)
-unmarked-kept n k K t slot mark (packet i) s j e q = let z : _≡_ {A = ℕ} 0 1 = cc in absurd (omega arith)
-unmarked-kept n k K t slot mark (refusedBy i) s j e q = let z : _≡_ {A = ℕ} 0 1 = cc in absurd (omega arith)
+unmarked-kept slot mark (heldAlready i) s j e q = let z : _≡_ {A = ℕ} 0 1 = cc in absurd (omega arith)
+unmarked-kept slot mark (packet i) s j e q = let z : _≡_ {A = ℕ} 0 1 = cc in absurd (omega arith)
+unmarked-kept slot mark (refusedBy i) s j e q = let z : _≡_ {A = ℕ} 0 1 = cc in absurd (omega arith)
 
 module _ (n : ℕ) (k : Kind) where
   kept-of : (st : Store) → AnyStore n k st → Kept n k st
@@ -144,8 +157,8 @@ module _ (n : ℕ) (k : Kind) where
             let md′ : May n k K t st p op = record { store = mc .store; is-part = md .is-part; waiting = sw .first } in
             let mc′ : May n k K t (next n k K t st p op) m om = record { store = may-next K t p op d bd st md′; is-part = mc .is-part; waiting = sw .second } in
             let sw′ = swap n k K t st p op m om (λ z. ne (sym z)) md′ mc′ in
-            let (kd, sd, nd) = unmarked-kept n k K t i f (answerTo n k K t st p op) (says p op md′) slot′ mark′ (sym (sw .answered) ∙ sym (answers-so K t p op d bd (next n k K t st m om) md) ∙ f′) in
-            let (si, fi) = subst (Said n k K t i f) ec (says m om mc) in
+            let (kd, sd, nd) = unmarked-kept i f (answerTo n k K t st p op) (says p op md′) slot′ mark′ (sym (sw .answered) ∙ sym (answers-so K t p op d bd (next n k K t st m om) md) ∙ f′) in
+            let (si, fi) = subst (Said i f) ec (says m om mc) in
             let ld = leaves-so K t p op d bd st md′ in
             record {
               same-slot = sd ∙ sym si;
@@ -224,7 +237,7 @@ module _ (n : ℕ) (k : Kind) where
         (both-hold (notComplete (outcome n st c .answer)) (noneComplete (answersOf n (left (outcome n st c)) cs′)) (ap notComplete (answers-so K t m (own m) c b st may) ∙ may .waiting) x, y)
 
     -- ---- the answers
-    module _ (st : Store) (slot : ℕ) (mark : Bool) (says : (m : ℕ) (o : List ℕ) → May n k K t st m o → Said n k K t slot mark (answerTo n k K t st m o)) where
+    module _ (st : Store) (slot : ℕ) (mark : Bool) (says : (m : ℕ) (o : List ℕ) → May n k K t st m o → Said slot mark (answerTo n k K t st m o)) where
       -- what may come to s, behind these, might have come first of all, with the answer that is told
       abbrev Reached : Store → List ℕ → Type 0
       Reached s behind = (m : ℕ) → MayBy s m → MayBy st m × (answerBy s m ≡ answeredBehind behind m (answerBy st m))
@@ -249,7 +262,7 @@ module _ (n : ℕ) (k : Kind) where
           answers-so K t m (own m) c b s may ∙ is ∙ ap (answeredBehind behind m) (sym (answers-so K t m (own m) c b st first)) in
           let (x, y) = subst (λ (z : Store). (answersOf n z cs′ ≡ allAnswered (λ c. outcome n st c .answer) (m ∷ behind) cs′ l′) × AllName slot (answersOf n z cs′))
           (sym (leaves-so K t m (own m) c b s may)) (answered-of cs′ l′ r (nextBy s m) e (m ∷ behind) (reached-more s behind m may know) q) in
-          ((λ z. here z ∷ x z), (subst (Names slot) (sym (answers-so K t m (own m) c b s may ∙ is)) (said-names slot mark n k K t (answerBy st m) (says m (own m) first) behind m), y))
+          ((λ z. here z ∷ x z), (subst (Names slot) (sym (answers-so K t m (own m) c b s may ∙ is)) (said-names slot mark (answerBy st m) (says m (own m) first) behind m), y))
 
 pub kept-then-held : (n : ℕ) → KeptThenHeld n
 kept-then-held n k = twice n k
@@ -275,3 +288,48 @@ any-order n k st a K t own cs ds l m bcs bds alike h = go (seat-of n k K t st (k
         let (u, v) = answered-of n k K t own st slot mark says ds m bds st (leftAfter n st cs) [] (λ j may. (may, refl)) r′ in
         let (u′, v′) = answered-of n k K t own st slot mark says cs l bcs st (leftAfter n st cs) [] (λ j may. (may, refl)) r in
         record { none-complete = x; equal = y; answered = u; slot = slot; one-slot = v′; same-slot = v }
+
+-- ---- the example
+module _ (b : ℕ) where
+  occupied-any : AnyStore 1 Command (occupied b)
+  unfolding elementsAfter summary judged readMessage keyFormed lengthFits allBelow anyBelow countBelow find aged toFront allZero usedFormed slotFormed keysDiffer ranked countsFollow slotsFormed step takePart takeMessage placed
+  occupied-any = record { formed = refl; kind = refl; size = refl }
+
+  brings-two : BringsPart Command key 3 2 (2 ∷ []) (ofThree b 2)
+  unfolding elementsAfter summary judged readMessage allBelow
+  brings-two = record { proper = record { output = length-replicate mostOctets b; octets = octets-of (octetsOf (ofThree b 2 .input)) refl }; start = 6; reads = refl; brings = refl }
+
+  brings-three : BringsPart Command key 3 3 (3 ∷ []) (ofThree b 3)
+  unfolding elementsAfter summary judged readMessage allBelow
+  brings-three = record { proper = record { output = length-replicate mostOctets b; octets = octets-of (octetsOf (ofThree b 3 .input)) refl }; start = 6; reads = refl; brings = refl }
+
+  one-brings-so : BringInOrder Command key 3 (λ number. number ∷ []) (oneOrder b) (2 ∷ 3 ∷ 2 ∷ [])
+  one-brings-so = first-brought (ofThree b 2) _ 2 _ brings-two (first-brought (ofThree b 3) _ 3 _ brings-three (first-brought (ofThree b 2) _ 2 _ brings-two none-brought))
+
+  other-brings-so : BringInOrder Command key 3 (λ number. number ∷ []) (otherOrder b) (3 ∷ 3 ∷ 2 ∷ [])
+  other-brings-so = first-brought (ofThree b 3) _ 3 _ brings-three (first-brought (ofThree b 3) _ 3 _ brings-three (first-brought (ofThree b 2) _ 2 _ brings-two none-brought))
+
+  one-told : answersOf 1 (occupied b) (oneOrder b) ≡ kept 0 true ∷ kept 0 false ∷ heldAlready 0 ∷ []
+  unfolding elementsAfter summary judged readMessage keyFormed lengthFits allBelow anyBelow countBelow find aged toFront allZero usedFormed slotFormed keysDiffer ranked countsFollow slotsFormed step takePart takeMessage placed cellPart sameOctets
+  one-told = refl
+
+  other-told : answersOf 1 (occupied b) (otherOrder b) ≡ kept 0 true ∷ heldAlready 0 ∷ kept 0 false ∷ []
+  unfolding elementsAfter summary judged readMessage keyFormed lengthFits allBelow anyBelow countBelow find aged toFront allZero usedFormed slotFormed keysDiffer ranked countsFollow slotsFormed step takePart takeMessage placed cellPart sameOctets
+  other-told = refl
+
+  pub shuffled-so : ShuffledSo b
+  shuffled-so = record {
+    any-store = occupied-any;
+    one-brings = one-brings-so;
+    other-brings = other-brings-so;
+    one-answered = one-told;
+    other-answered = other-told;
+    equal = any-order 1 Command (occupied b) occupied-any key 3 (λ number. number ∷ []) (oneOrder b) (otherOrder b) (2 ∷ 3 ∷ 2 ∷ []) (3 ∷ 3 ∷ 2 ∷ []) one-brings-so other-brings-so
+        (λ number. either (eqb number 2) (eqb number 3)) (ap noneComplete one-told) .equal;
+  }
+    where
+      either : (x y : Bool) → x || (y || (x || false)) ≡ y || (y || (x || false))
+      either true true = refl
+      either true false = refl
+      either false true = refl
+      either false false = refl

@@ -19,6 +19,7 @@ use Rattle.demands.specs.Silence.{Beating, SilentGivenUp}
 use Rattle.demands.specs.Others.{OthersDoNotShow}
 use Rattle.demands.specs.SplitTaken.{MessagesArrive, PagesArrive}
 use Rattle.demands.specs.Delivery.{MessagesDelivered, PagesDelivered, MessagesWritten, PagesWritten}
+use Rattle.demands.specs.Shuffled.{KeptThenHeld, EitherOrder, AnyOrder}
 use Rattle.demands.specs.Reports.{ReportRefusals, NoneLost, NoneLostEither, EditionsAlike, EitherAccepted}
 
 -- 1. "Every entry point takes every input, does nothing undefined and ends": no public call asks anything of its caller, and each is proved.
@@ -95,3 +96,9 @@ pub record Demand3 (n : ℕ) : Type 0 where
   pub silent-given-up : SilentGivenUp n
   pub others-do-not-show : OthersDoNotShow n FewerThanLeast
   pub others-do-not-show-sharp : OthersDoNotShow n InTime
+
+-- "Order and repetition" (02 [10]), of a record with n slots: a part that comes twice, two parts in either order, and any orders of the same parts.
+pub record OrderAndRepetition (n : ℕ) : Type 0 where
+  pub kept-then-held : KeptThenHeld n
+  pub either-order : EitherOrder n
+  pub any-order : AnyOrder n

@@ -7,6 +7,7 @@ use mathlib.Core.List.{List, [], _∷_, map}
 use lib.ListN.{length, drop}
 use lib.Dec.{eqb}
 use Rattle.types.specs.declared.Kind.{Kind}
+use Rattle.types.specs.declared.Kind.the-variants.{Command}
 use Rattle.types.specs.Refusals as reading
 use Rattle.types.specs.declared.Key.{Key}
 use Rattle.arrival.specs.Arrivals.{part}
@@ -15,7 +16,8 @@ use Rattle.series.specs.Cells.{cellsSize}
 use Rattle.series.specs.Taking.{Answer, kept, heldAlready, packet, refusedBy, after}
 use Rattle.series.specs.Calls.{read, octetsOf}
 use Rattle.demands.specs.Lists.{elem}
-use Rattle.demands.specs.Runs.{Call, takes, Store, outcome, left, run, ProperCall}
+use Rattle.demands.specs.Runs.{Call, takes, Store, outcome, left, run, ProperCall, fresh}
+use Rattle.demands.specs.Reached.{key, callFrom, stranger, cells}
 
 -- ---- what it is said of
 -- a well-formed record of n slots and that kind, and cells of its length
@@ -121,3 +123,28 @@ abbrev pub AnyOrder : ℕ → Type 0
 AnyOrder n = (k : Kind) (st : Store) → AnyStore n k st → (K : Key) (total : ℕ) (own : ℕ → List ℕ) (cs ds : List Call) (l m : List ℕ)
     → BringInOrder k K total own cs l → BringInOrder k K total own ds m → ((number : ℕ) → elem number l ≡ elem number m)
     → noneComplete (answersOf n st cs) ≡ true → Shuffled n st cs ds m
+
+-- ---- an example
+-- Parts 2 and 3 of three, under the key of sender 1 with the 8-bit reference 2A, come to a record of one slot that holds the series of another sender.
+-- Whichever comes first displaces it. Buffers are filled with any octet.
+module _ (b : ℕ) where
+  abbrev pub occupied : Store
+  occupied = left (outcome 1 (fresh 1 Command (cells 1 b)) (stranger b 2))
+
+  abbrev pub ofThree : ℕ → Call
+  ofThree number = callFrom b 1 (0x05 ∷ 0x00 ∷ 0x03 ∷ 0x2A ∷ 0x03 ∷ number ∷ number ∷ [])
+
+  abbrev pub oneOrder : List Call
+  oneOrder = ofThree 2 ∷ ofThree 3 ∷ ofThree 2 ∷ []
+
+  abbrev pub otherOrder : List Call
+  otherOrder = ofThree 3 ∷ ofThree 3 ∷ ofThree 2 ∷ []
+
+  -- the premises hold, and the answers are these
+  pub record ShuffledSo : Type 0 where
+    pub any-store : AnyStore 1 Command occupied
+    pub one-brings : BringInOrder Command key 3 (λ number. number ∷ []) oneOrder (2 ∷ 3 ∷ 2 ∷ [])
+    pub other-brings : BringInOrder Command key 3 (λ number. number ∷ []) otherOrder (3 ∷ 3 ∷ 2 ∷ [])
+    pub one-answered : answersOf 1 occupied oneOrder ≡ kept 0 true ∷ kept 0 false ∷ heldAlready 0 ∷ []
+    pub other-answered : answersOf 1 occupied otherOrder ≡ kept 0 true ∷ heldAlready 0 ∷ kept 0 false ∷ []
+    pub equal : leftAfter 1 occupied otherOrder ≡ leftAfter 1 occupied oneOrder
