@@ -163,8 +163,8 @@ pub record OthersShow (n b : ℕ) : Type 0 where
 -- ---- the premises can be met
 -- With three slots and two other keys between the two parts the premises hold; in both runs the second part finds the first in slot 0, hands
 -- out M and leaves nothing of the series.
-abbrev pub handsOutM : ℕ → View
-handsOutM b =
+abbrev pub secondView : ℕ → View
+secondView b =
     record {
       found = some (record { slot = 0; total = 2; parts = some (take 8 M) ∷ replicate 15 none });
       answer = packet 16;
@@ -175,5 +175,5 @@ handsOutM b =
 pub record TwoOthers (b : ℕ) : Type 0 where
   pub start : Start 3 Command key M halves InTime (cells 3 b) [] (crowd b 2 ++ takes (second b) ∷ [])
   pub others-left-out : withoutOthers Command key (crowd b 2 ++ takes (second b) ∷ []) ≡ takes (first b) ∷ takes (second b) ∷ []
-  pub with-others : viewBehind 3 Command key (cells 3 b) (crowd b 2) (second b) ≡ handsOutM b
-  pub without : viewBehind 3 Command key (cells 3 b) (takes (first b) ∷ []) (second b) ≡ handsOutM b
+  pub with-others : viewBehind 3 Command key (cells 3 b) (crowd b 2) (second b) ≡ secondView b
+  pub without : viewBehind 3 Command key (cells 3 b) (takes (first b) ∷ []) (second b) ≡ secondView b
