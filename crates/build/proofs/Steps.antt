@@ -1,28 +1,29 @@
 -- What the proofs of `build` cite: one law for each return, over plain variables.
 use Prim.Native.Nat.{ℕ, _+_, _-_, _%_, _≤_, _<_}
 use mathlib.Core.Path.{_≡_, refl, sym, ap, _∙_}
-use mathlib.Core.Bool.{Bool, true, false, not, _||_}
+use mathlib.Core.Bool.{Bool, true, false, _||_}
 use mathlib.Core.List.{List, [], _∷_, _++_, append-nil, append-assoc}
 use native.Mathlib.Omega.{arith}
 use lib.ListN.{length, getD, drop, length-append, length-drop, List·getD-append}
 use lib.Seq.{getD-drop}
-use lib.Dec.{eqb, ltb}
+use lib.Dec.{ltb}
 use borrow.Author.Needs.{needs}
-use borrow.Author.Tests.{lt-ltb, le-ltb, ltb-true, ltb-false, eq-eqb, ne-eqb, eqb-true}
+use borrow.Author.Tests.{lt-ltb, le-ltb, ltb-true, ltb-false, eq-eqb, ne-eqb}
 use Rattle.types.specs.declared.Pair.{Pair}
 use Rattle.octets.specs.Octets.{pairOf, placed, afterPut}
 use Rattle.octets.specs.Laws.{put-fits, placed-start, put-behind}
 use Rattle.types.specs.declared.Kind.{Kind}
-use Rattle.types.specs.declared.Kind.the-variants.{Command, Response}
+use Rattle.types.specs.declared.Kind.the-variants.{Command}
 use Rattle.types.specs.declared.Refusal.{Refusal}
 use Rattle.build.specs.declared.Ruling.{Ruling}
 use Rattle.build.specs.declared.Ruling.the-variants as ruling
-use Rattle.types.specs.Refusals.{Outcome, refused, gives, refuse_when_otherwise_, refusalNumber, Lent, lent, writes}
-use Rattle.packet.specs.Packets.{before, least, Fields, plain, ciphered, cipherBit, differ, behind, packetFrom, packetOf, isCiphered, againstSpi, againstBits, againstCheck, misfit, building, built}
+use Rattle.types.specs.Refusals.{Outcome, refused, gives, refusalNumber, Lent, lent, writes}
+use Rattle.packet.specs.Packets.{before, least, Fields, plain, ciphered, cipherBit, differ, packetFrom, packetOf, againstSpi, againstBits, againstCheck, misfit, building, built}
 use Rattle.packet.specs.Laws.{before-some, before-least, least-most}
 use Rattle.octets.specs.Tests.{neither}
 use Rattle.build.specs.Within.{againstOctet, outside, ruled, toldRuling, tried}
 use Rattle.packet.specs.Judging.{andThen}
+use Rattle.build.specs.Laws.{ruled-then, allowed, against-is}
 
 -- ---- the tests
 pub against-command : (k : Kind) (first : ℕ) (c x r : Bool) → k ≡ Command → x ≡ cipherBit first → r ≡ differ x c → r ≡ againstOctet k first c
@@ -84,65 +85,39 @@ module _ (d h f b : List ℕ) (header : ℕ) (room : 3 ≤ length h) where
       rw (i, q, placed-start d (packetFrom header rest), size-is)
 
 -- ---- the tests' order
-module _ (k : Kind) (first buffer : ℕ) (c m u l : Bool) where
-  pub rule-buffer : (buffer ≡ 2142 → ⊥) → (o : Outcome ℕ) → refused 1 ≡ ruled buffer (againstOctet k first c) m u l o
-  rule-buffer n o = rw (ne-eqb buffer 2142 n)
+module _ (k : Kind) (first wanted buffer : ℕ) (c m u l : Bool) where
+  pub rule-buffer : (buffer ≡ wanted → ⊥) → (o : Outcome ℕ) → refused 1 ≡ ruled wanted buffer (againstOctet k first c) m u l o
+  rule-buffer n o = rw (ne-eqb buffer wanted n)
 
-  module _ (e : buffer ≡ 2142) (a : Bool) (f : a ≡ againstOctet k first c) where
-    pub rule-against : a ≡ true → (o : Outcome ℕ) → refused 10 ≡ ruled buffer (againstOctet k first c) m u l o
-    rule-against t o = rw (eq-eqb buffer 2142 e, ← f, t)
+  module _ (e : buffer ≡ wanted) (a : Bool) (f : a ≡ againstOctet k first c) where
+    pub rule-against : a ≡ true → (o : Outcome ℕ) → refused 10 ≡ ruled wanted buffer (againstOctet k first c) m u l o
+    rule-against t o = rw (eq-eqb buffer wanted e, ← f, t)
 
     module _ (t : a ≡ false) where
-      pub rule-misfit : m ≡ true → (o : Outcome ℕ) → refused 11 ≡ ruled buffer (againstOctet k first c) m u l o
-      rule-misfit s o = rw (eq-eqb buffer 2142 e, ← f, t, s)
+      pub rule-misfit : m ≡ true → (o : Outcome ℕ) → refused 11 ≡ ruled wanted buffer (againstOctet k first c) m u l o
+      rule-misfit s o = rw (eq-eqb buffer wanted e, ← f, t, s)
 
       module _ (s : m ≡ false) where
-        pub rule-unchecked : u ≡ true → (o : Outcome ℕ) → refused 15 ≡ ruled buffer (againstOctet k first c) m u l o
-        rule-unchecked v o = rw (eq-eqb buffer 2142 e, ← f, t, s, v)
+        pub rule-unchecked : u ≡ true → (o : Outcome ℕ) → refused 15 ≡ ruled wanted buffer (againstOctet k first c) m u l o
+        rule-unchecked v o = rw (eq-eqb buffer wanted e, ← f, t, s, v)
 
         module _ (v : u ≡ false) where
-          pub rule-long : l ≡ true → (o : Outcome ℕ) → refused 12 ≡ ruled buffer (againstOctet k first c) m u l o
-          rule-long n o = rw (eq-eqb buffer 2142 e, ← f, t, s, v, n)
+          pub rule-long : l ≡ true → (o : Outcome ℕ) → refused 12 ≡ ruled wanted buffer (againstOctet k first c) m u l o
+          rule-long n o = rw (eq-eqb buffer wanted e, ← f, t, s, v, n)
 
-          pub rule-none : l ≡ false → (o : Outcome ℕ) → o ≡ ruled buffer (againstOctet k first c) m u l o
-          rule-none n o = rw (eq-eqb buffer 2142 e, ← f, t, s, v, n)
+          pub rule-none : l ≡ false → (o : Outcome ℕ) → o ≡ ruled wanted buffer (againstOctet k first c) m u l o
+          rule-none n o = rw (eq-eqb buffer wanted e, ← f, t, s, v, n)
 
 -- ---- either body
-ruled-then : {A : Type 0} (n : ℕ) (a m u l : Bool) (o : Outcome A) → ruled n a m u l o ≡ andThen (ruled n a m u l (gives 0)) o
-ruled-then n a m u l o = go (eqb n 2142) a m u l
-  where
-    go : (e a m u l : Bool)
-        → (refuse 1 when not e otherwise refuse 10 when a otherwise refuse 11 when m otherwise refuse 15 when u otherwise refuse 12 when l otherwise o)
-        ≡ andThen (refuse 1 when not e otherwise refuse 10 when a otherwise refuse 11 when m otherwise refuse 15 when u otherwise refuse 12 when l otherwise gives 0) o
-    go false a m u l = refl
-    go true true m u l = refl
-    go true false true u l = refl
-    go true false false true l = refl
-    go true false false false true = refl
-    go true false false false false = refl
-
-allowed : (n : ℕ) (a m u l : Bool) → _≡_ {A = Outcome ℕ} (gives 0) (ruled n a m u l (gives 0)) → (n ≡ 2142) × (l ≡ false)
-allowed n a m u l e = go (eqb n 2142) a m u l refl refl e
-  where
-    go : (b a m u l′ : Bool) → eqb n 2142 ≡ b → l ≡ l′
-        → _≡_ {A = Outcome ℕ} (gives 0) (refuse 1 when not b otherwise refuse 10 when a otherwise refuse 11 when m otherwise refuse 15 when u otherwise refuse 12 when l′ otherwise gives 0)
-        → (n ≡ 2142) × (l ≡ false)
-    go false a m u l′ p q e = let z : _≡_ {A = ℕ} 0 1 = cc in absurd (omega arith)
-    go true true m u l′ p q e = let z : _≡_ {A = ℕ} 0 1 = cc in absurd (omega arith)
-    go true false true u l′ p q e = let z : _≡_ {A = ℕ} 0 1 = cc in absurd (omega arith)
-    go true false false true l′ p q e = let z : _≡_ {A = ℕ} 0 1 = cc in absurd (omega arith)
-    go true false false false true p q e = let z : _≡_ {A = ℕ} 0 1 = cc in absurd (omega arith)
-    go true false false false false p q e = (eqb-true n 2142 p, q)
-
 module _ (d h f b : List ℕ) (a m u l : Bool) (s : l ≡ ltb 2142 (length h + (length f + length b))) (j : Ruling)
-    (e : toldRuling j ≡ ruled (length d) a m u l (gives 0)) where
+    (e : toldRuling j ≡ ruled 2142 (length d) a m u l (gives 0)) where
   module _ (t : j ≡ ruling.Allowed) where
     pub allowed-buffer : length d ≡ 2142
-    allowed-buffer = allowed (length d) a m u l (sym (ap toldRuling t) ∙ e) .0
+    allowed-buffer = allowed 2142 (length d) a m u l (sym (ap toldRuling t) ∙ e) .0
 
     pub allowed-size : length h + (length f + length b) ≤ 2142
     allowed-size =
-        ltb-false 2142 (length h + (length f + length b)) (sym s ∙ allowed (length d) a m u l (sym (ap toldRuling t) ∙ e) .1)
+        ltb-false 2142 (length h + (length f + length b)) (sym s ∙ allowed 2142 (length d) a m u l (sym (ap toldRuling t) ∙ e) .1)
 
   module _ (room : 4 ≤ length h) (n : ℕ) where
     abbrev the-packet : List ℕ
@@ -151,7 +126,7 @@ module _ (d h f b : List ℕ) (a m u l : Bool) (s : l ≡ ltb 2142 (length h + (
     as-ruled : tried a m u the-packet d ≡ writes (andThen (toldRuling j) (gives the-packet)) d
     as-ruled =
         let q : ltb 2142 (length the-packet) ≡ l = rw (size-is d h f b n (omega arith)) (sym s) in
-        rw (ruled-then (length d) a m u (ltb 2142 (length the-packet)) (gives the-packet), q, e)
+        rw (ruled-then 2142 (length d) a m u (ltb 2142 (length the-packet)) (gives the-packet), q, e)
 
     pub tried-refused : (r : Refusal) → j ≡ ruling.Refused r → lent (refused (refusalNumber r)) d ≡ tried a m u the-packet d
     tried-refused r t = sym (as-ruled ∙ rw t)
@@ -169,10 +144,6 @@ same-built k x d q a false u e f i g = rw (e, f, i, g refl)
 -- the first octet behind the lengths stands at the head's place 3
 first-octet : (h r : List ℕ) → 3 < length h → getD (drop 3 h ++ r) 0 0 ≡ getD h 3 0
 first-octet h r l = List·getD-append (drop 3 h) r 0 0 (simp length-drop (omega arith)) ∙ getD-drop 3 h 0 0
-
-against-is : (k : Kind) (x : Fields) → againstSpi k x ≡ againstOctet k (getD (behind x) 0 0) (isCiphered x)
-against-is Command x = refl
-against-is Response x = refl
 
 module _ (k : Kind) (h : List ℕ) where
   pub plain-room : length h ≡ 3 + least k → 4 ≤ length h

@@ -16,10 +16,10 @@ abbrev pub againstOctet : Kind → ℕ → Bool → Bool
 againstOctet Command first c = differ (cipherBit first) c
 againstOctet Response first c = false
 
--- the refusals of a building in their order, of the five tests
-abbrev pub ruled : {A : Type 0} → ℕ → Bool → Bool → Bool → Bool → Outcome A → Outcome A
-ruled buffer against misfit unchecked over o =
-    refuse 1 when not (eqb buffer mostOctets) otherwise
+-- the refusals of fields in their order, of the five tests; the buffer is to have `wanted` octets
+abbrev pub ruled : {A : Type 0} → (wanted buffer : ℕ) → Bool → Bool → Bool → Bool → Outcome A → Outcome A
+ruled wanted buffer against misfit unchecked over o =
+    refuse 1 when not (eqb buffer wanted) otherwise
     refuse 10 when against otherwise
     refuse 11 when misfit otherwise
     refuse 15 when unchecked otherwise
@@ -32,7 +32,7 @@ toldRuling (ruling.Refused r) = refused (refusalNumber r)
 
 -- what building the packet p comes to, of three of the tests
 abbrev pub tried : Bool → Bool → Bool → List ℕ → List ℕ → Lent
-tried against misfit unchecked p buffer = writes (ruled (length buffer) against misfit unchecked (ltb mostOctets (length p)) (gives p)) buffer
+tried against misfit unchecked p buffer = writes (ruled mostOctets (length buffer) against misfit unchecked (ltb mostOctets (length p)) (gives p)) buffer
 
 -- 11 of a ciphered body, of the header length and the number of opaque octets
 abbrev pub outside : Kind → ℕ → ℕ → Bool

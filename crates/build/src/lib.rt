@@ -30,7 +30,7 @@ fn against(kind: Kind, first: u8, ciphered: bool) -> bool
 }
 
 // Whether the header length or the opaque octets of a ciphered body are out of bounds.
-fn outside(kind: Kind, header: usize, opaque: usize) -> bool
+pub fn outside(kind: Kind, header: usize, opaque: usize) -> bool
     ensures { λ r. ⌜ r ≡ outside kind header opaque ⌝ }
 {
     if header < layout::least(kind) {
@@ -51,16 +51,17 @@ fn over(head: usize, front: usize, back: usize) -> bool
     PACKET_OCTETS - head - front < back
 }
 
-// Whether a packet is built, or how it is refused.
-enum Ruling {
+// Whether fields are written, or how they are refused.
+pub enum Ruling {
     Allowed,
     Refused(Refusal),
 }
 
-// The refusals of building in their order: the buffer, the body against SPI, the header length, the check field against SPI, the packet's
-// length.
-fn rule(
+// The refusals of fields in their order, whatever carries them: a buffer of another length than is wanted, the body against SPI, the header
+// length, the check field against SPI, more octets than are carried.
+pub fn rule(
     kind: Kind,
+    wanted: usize,
     buffer: usize,
     first: u8,
     ciphered: bool,
@@ -68,9 +69,9 @@ fn rule(
     unchecked: bool,
     over: bool,
 ) -> Ruling
-    ensures { λ r. ⌜ toldRuling r ≡ ruled buffer (againstOctet kind first ciphered) misfit unchecked over (gives 0) ⌝ }
+    ensures { λ r. ⌜ toldRuling r ≡ ruled wanted buffer (againstOctet kind first ciphered) misfit unchecked over (gives 0) ⌝ }
 {
-    if buffer != PACKET_OCTETS {
+    if buffer != wanted {
         return Ruling::Refused(Refusal::BufferOrRecord);
     }
     if against(kind, first, ciphered) {
@@ -137,7 +138,16 @@ fn build(
     ensures { λ r. ⌜ lent (toldWritten r) (now (out .exit)) ≡ tried (againstOctet kind (getD (now (head .entry)) 3 0) ciphered) misfit unchecked (packetFrom (header % 256) (drop 3 (now (head .entry)) ++ (now (front .entry) ++ now (back .entry)))) (now (out .entry)) ⌝ }
 {
     let long = over(head.len(), front.len(), back.len());
-    let ruled = rule(kind, out.len(), head[3], ciphered, misfit, unchecked, long);
+    let ruled = rule(
+        kind,
+        PACKET_OCTETS,
+        out.len(),
+        head[3],
+        ciphered,
+        misfit,
+        unchecked,
+        long,
+    );
     match ruled {
         Ruling::Refused(refusal) => Written::Refused(refusal),
         Ruling::Allowed => Written::Octets(write(header, head, front, back, out)),

@@ -12,7 +12,7 @@ use Rattle.types.specs.declared.Refusal.{Refusal}
 use Rattle.packet.specs.declared.read.Judged.{Judged}
 use Rattle.packet.specs.declared.read.Judged.the-variants as judged
 use Rattle.types.specs.Refusals.{Outcome, refused, gives, refuse_when_otherwise_, refusalNumber}
-use Rattle.packet.specs.Packets.{chl, wellFormed, fieldsOf, againstCheck, readable}
+use Rattle.packet.specs.Packets.{chl, wellFormed, fieldsOf, againstCheck, readable, shown, shownBy}
 use Rattle.packet.specs.Laws.{PacketLengths, formed-facts}
 
 -- what the answer to "can this packet be read" says: the header length, or the refusal
@@ -24,6 +24,11 @@ toldJudged (judged.Refused r) = refused (refusalNumber r)
 abbrev pub andThen : {A : Type 0} → Outcome ℕ → Outcome A → Outcome A
 andThen (refused n) o = refused n
 andThen (gives h) o = o
+
+-- the part that is shown is that of the header length, if reading came to it
+pub shown-by : (r : Outcome ℕ) (h : ℕ) (f : ℕ → List ℕ) → ((n : ℕ) → r ≡ gives n → n ≡ h) → shownBy f r ≡ shown (andThen r (gives (f h)))
+shown-by (refused n) h f is = refl
+shown-by (gives n) h f is = ap f (is n refl)
 
 module _ (k : Kind) (c : Bool) (p : List ℕ) where
   pub readable-then : {A : Type 0} (n : ℕ) (o : Outcome A) → readable k c p o ≡ andThen (readable k c p (gives n)) o

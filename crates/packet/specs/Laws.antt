@@ -15,7 +15,7 @@ use Rattle.octets.specs.Laws.{number-of-pair}
 use Rattle.types.specs.declared.Kind.{Kind}
 use Rattle.types.specs.declared.Kind.the-variants.{Command, Response}
 use Rattle.types.specs.Refusals.{Outcome, gives, refuse_when_otherwise_}
-use Rattle.packet.specs.Packets.{before, least, cpl, chl, wellFormed, Fields, plain, ciphered, fieldsBehind, fieldsOf, cipherBit, cipheredCommand, measured, againstCheck, readable, parsing, shown, securedOf, checkOf, opaqueOf, shownData, shownCheck, shownOpaque, headerLength, behind, packetFrom, packetOf, isCiphered, differ, againstSpi, misfit, building, fixedOctets, withoutCheck, checksumOctets}
+use Rattle.packet.specs.Packets.{before, least, cpl, chl, wellFormed, within, Fields, plain, ciphered, fieldsBehind, fieldsOf, cipherBit, cipheredBehind, cipheredCommand, measured, againstCheck, readable, parsing, shown, securedOf, checkOf, opaqueOf, shownData, shownCheck, shownOpaque, headerLength, behind, packetFrom, packetOf, isCiphered, differ, againstSpi, misfit, fitting, building, fixedOctets, withoutCheck, checksumOctets}
 
 -- ---- the layout
 -- something stands before CNTR; CNTR and PCNTR lie before the check field; what lies there is little
@@ -30,6 +30,21 @@ before-least Response = omega arith
 pub least-most : (k : Kind) → least k ≤ 13
 least-most Command = omega arith
 least-most Response = omega arith
+
+-- ---- behind the lengths
+-- what a header within the octets behind the lengths is
+pub record Inside (k : Kind) (header : ℕ) (o : List ℕ) : Type 0 where
+  pub room : least k ≤ header
+  pub fits : header ≤ length o
+
+pub within-facts : (k : Kind) (h : ℕ) (o : List ℕ) → within k h o ≡ true → Inside k h o
+within-facts k h o e =
+    let (r, f) = both (leb (least k) h) (leb h (length o)) e in
+    let r′ = leb-true (least k) h r in
+    let f′ = leb-true h (length o) f in record { room = r′; fits = f′ }
+
+pub within-told : (k : Kind) (h : ℕ) (o : List ℕ) → least k ≤ h → h ≤ length o → within k h o ≡ true
+within-told k h o l m = rw (le-leb (least k) h l, le-leb h (length o) m)
 
 -- ---- well formed
 -- what a well-formed packet's lengths are: CPL counts all but itself, the header has room for its fixed fields, and lies within the packet
@@ -46,6 +61,10 @@ formed-facts k p e =
     let r′ = leb-true (least k) (chl p) r in
     let h′ = leb-true (chl p + 1) (cpl p) h in record { whole = w′; room = r′; inside = omega arith }
 
+-- the header of a well-formed packet is within what is behind its lengths
+pub formed-within : (k : Kind) (p : List ℕ) → wellFormed k p ≡ true → within k (chl p) (drop 3 p) ≡ true
+formed-within k p e = let f = formed-facts k p e in within-told k (chl p) (drop 3 p) (f .room) (rw length-drop (omega arith))
+
 -- a well-formed packet that is not too long, and whose check bits agree with its check field, is refused nothing in reading
 pub readable-formed : {A : Type 0} (k : Kind) (c : Bool) (p : List ℕ) (o : Outcome A) → wellFormed k p ≡ true → length p ≤ 2142
     → againstCheck k (fieldsOf k c p) ≡ false → readable k c p o ≡ o
@@ -57,32 +76,41 @@ abbrev pub RightLength : Kind → Fields → Type 0
 RightLength k (plain f c d) = length f ≡ least k
 RightLength k (ciphered f h o) = length f ≡ before k
 
+-- fields that are refused nothing, whatever carries them
+pub record Fitted (k : Kind) (x : Fields) : Type 0 where
+  pub agrees : againstSpi k x ≡ false
+  pub fits : misfit k x ≡ false
+  pub checked : againstCheck k x ≡ false
+
+pub fitting-gives : {A : Type 0} (k : Kind) (x : Fields) (long : Bool) (y z : A) → fitting k x long (gives y) ≡ gives z
+    → Fitted k x × ((long ≡ false) × (y ≡ z))
+fitting-gives k x long y z e = go (againstSpi k x) (misfit k x) (againstCheck k x) long refl refl refl e
+  where
+    go : (a m b l : Bool) → againstSpi k x ≡ a → misfit k x ≡ m → againstCheck k x ≡ b
+        → (refuse 10 when a otherwise refuse 11 when m otherwise refuse 15 when b otherwise refuse 12 when l otherwise gives y) ≡ gives z
+        → Fitted k x × ((l ≡ false) × (y ≡ z))
+    go true m b l i j c e = let z : _≡_ {A = ℕ} 0 1 = cc in absurd (omega arith)
+    go false true b l i j c e = let z : _≡_ {A = ℕ} 0 1 = cc in absurd (omega arith)
+    go false false true l i j c e = let z : _≡_ {A = ℕ} 0 1 = cc in absurd (omega arith)
+    go false false false true i j c e = let z : _≡_ {A = ℕ} 0 1 = cc in absurd (omega arith)
+    go false false false false i j c e = (record { agrees = i; fits = j; checked = c }, (refl, cc))
+
 -- what was built was refused nothing
 record Built (k : Kind) (x : Fields) (p : List ℕ) : Type 0 where
-  agrees : againstSpi k x ≡ false
-  fits : misfit k x ≡ false
-  checked : againstCheck k x ≡ false
+  fitted : Fitted k x
   short : length p ≤ 2142
   is : p ≡ packetFrom (headerLength k x) (behind x)
 
 built-is : (k : Kind) (x : Fields) (p : List ℕ) → building k x ≡ gives p → Built k x p
 unfolding building packetOf
-built-is k x p e = go (againstSpi k x) (misfit k x) (againstCheck k x) (ltb 2142 (length (packetOf k x))) refl refl refl refl e
-  where
-    go : (a m b l : Bool) → againstSpi k x ≡ a → misfit k x ≡ m → againstCheck k x ≡ b → ltb 2142 (length (packetFrom (headerLength k x) (behind x))) ≡ l
-        → (refuse 10 when a otherwise refuse 11 when m otherwise refuse 15 when b otherwise refuse 12 when l otherwise gives (packetFrom (headerLength k x) (behind x))) ≡ gives p
-        → Built k x p
-    go true m b l i j c n e = let z : _≡_ {A = ℕ} 0 1 = cc in absurd (omega arith)
-    go false true b l i j c n e = let z : _≡_ {A = ℕ} 0 1 = cc in absurd (omega arith)
-    go false false true l i j c n e = let z : _≡_ {A = ℕ} 0 1 = cc in absurd (omega arith)
-    go false false false true i j c n e = let z : _≡_ {A = ℕ} 0 1 = cc in absurd (omega arith)
-    go false false false false i j c n e =
-        let s : packetFrom (headerLength k x) (behind x) ≡ p = cc in
-        let m = ltb-false 2142 (length (packetFrom (headerLength k x) (behind x))) n in
-        record { agrees = i; fits = j; checked = c; short = omega (arith, m, ap length s); is = sym s }
+built-is k x p e =
+    let (f, (n, s)) = fitting-gives k x (ltb 2142 (length (packetOf k x))) (packetOf k x) p e in
+    let s′ : packetFrom (headerLength k x) (behind x) ≡ p = s in
+    let m = ltb-false 2142 (length (packetFrom (headerLength k x) (behind x))) n in
+    record { fitted = f; short = omega (arith, m, ap length s′); is = sym s′ }
 
 -- the header length has room for the fixed fields and lies within what stands behind the lengths
-header-right : (k : Kind) (x : Fields) → RightLength k x → misfit k x ≡ false → (least k ≤ headerLength k x) × (headerLength k x ≤ length (behind x))
+pub header-right : (k : Kind) (x : Fields) → RightLength k x → misfit k x ≡ false → (least k ≤ headerLength k x) × (headerLength k x ≤ length (behind x))
 header-right k (plain f c d) r m = (omega arith, simp length-append (omega arith))
 header-right k (ciphered f h o) r m =
     let (u, v) = neither (ltb h (least k) || ltb 255 h) (ltb (length o) (h - before k)) m in
@@ -98,9 +126,9 @@ from-formed k h o l m =
 pub built-formed : (k : Kind) (x : Fields) (p : List ℕ) → building k x ≡ gives p → RightLength k x → (wellFormed k p ≡ true) × (length p ≤ 2142)
 built-formed k x p e r =
     let b = built-is k x p e in
-    let h = header-right k x r (b .fits) in (rw (b .is) (from-formed k (headerLength k x) (behind x) (h .0) (h .1)), b .short)
+    let h = header-right k x r (b .fitted .fits) in (rw (b .is) (from-formed k (headerLength k x) (behind x) (h .0) (h .1)), b .short)
 
-behind-fields : (k : Kind) (x : Fields) → RightLength k x → fieldsBehind k (isCiphered x) (headerLength k x) (behind x) ≡ x
+pub behind-fields : (k : Kind) (x : Fields) → RightLength k x → fieldsBehind k (isCiphered x) (headerLength k x) (behind x) ≡ x
 behind-fields k (plain f c d) r =
     rw (← r, take-append-seam f (c ++ d), drop-append-seam f (c ++ d), add-sub-cancel-left, take-append-seam c d, drop-append-add f (c ++ d) (length c), drop-append-seam c d)
 behind-fields k (ciphered f h o) r = rw (take-at f o (before k) r, drop-at f o (before k) r)
@@ -111,9 +139,9 @@ built-fields k x p e r = let b = built-is k x p e in rw (b .is) (behind-fields k
 
 -- so its check bits agree with its check field
 pub built-checked : (k : Kind) (x : Fields) (p : List ℕ) → building k x ≡ gives p → RightLength k x → againstCheck k (fieldsOf k (isCiphered x) p) ≡ false
-built-checked k x p e r = rw (built-fields k x p e r) (built-is k x p e .checked)
+built-checked k x p e r = rw (built-fields k x p e r) (built-is k x p e .fitted .checked)
 
-differ-none : (a b : Bool) → differ a b ≡ false → a ≡ b
+pub differ-none : (a b : Bool) → differ a b ≡ false → a ≡ b
 differ-none true true e = refl
 differ-none true false e = e
 differ-none false b e = sym e
@@ -121,7 +149,7 @@ differ-none false b e = sym e
 -- a command says itself which body it has
 pub built-cipher : (x : Fields) (p : List ℕ) → building Command x ≡ gives p → cipheredCommand p ≡ isCiphered x
 built-cipher x p e =
-    let b = built-is Command x p e in rw (b .is) (differ-none (cipherBit (getD (behind x) 0 0)) (isCiphered x) (b .agrees))
+    let b = built-is Command x p e in rw (b .is) (differ-none (cipherBit (getD (behind x) 0 0)) (isCiphered x) (b .fitted .agrees))
 
 -- so parsing answers with these fields, and the parts shown are those given
 module _ (k : Kind) (x : Fields) (p : List ℕ) (e : building k x ≡ gives p) (r : RightLength k x) where
@@ -205,13 +233,22 @@ packet-again k p f l =
     let u : cpl p / 256 ≡ getD p 0 0 = omega arith in
     let v : cpl p % 256 ≡ getD p 1 0 = omega arith in rw (n, u, v) (three-more p (omega arith))
 
-against-again : (k : Kind) (c : Bool) (p : List ℕ) → least k ≤ chl p → (k ≡ Command → c ≡ cipheredCommand p) → againstSpi k (fieldsOf k c p) ≡ false
-against-again Command c p l s =
-    rw (said Command c (chl p) (drop 3 p), behind-again Command c (chl p) (drop 3 p) l, getD-drop 3 p 0 0, s refl) (differ-self (cipheredCommand p))
-against-again Response c p l s = refl
+against-again : (k : Kind) (c : Bool) (h : ℕ) (o : List ℕ) → least k ≤ h → (k ≡ Command → c ≡ cipheredBehind o) → againstSpi k (fieldsBehind k c h o) ≡ false
+against-again Command c h o l s =
+    rw (said Command c h o, behind-again Command c h o l) (rw (← s refl) (differ-self c))
+against-again Response c h o l s = refl
 
-sized-again : (q p : List ℕ) → q ≡ p → length p ≤ 2142 → (refuse 12 when ltb 2142 (length q) otherwise gives q) ≡ gives p
-sized-again q p e l = rw (e, le-ltb 2142 (length p) l)
+-- the fields of octets that were read are refused nothing in writing, whatever carries them, and are the same octets behind the lengths
+module _ (k : Kind) (c : Bool) (h : ℕ) (o : List ℕ) (f : Inside k h o) where
+  pub fitting-again : {A : Type 0} (r : Outcome A) → h ≤ 255 → againstCheck k (fieldsBehind k c h o) ≡ false → (k ≡ Command → c ≡ cipheredBehind o)
+      → (long : Bool) → long ≡ false → fitting k (fieldsBehind k c h o) long r ≡ r
+  fitting-again r b a s long l = rw (against-again k c h o (f .room) s, misfit-again k c h o (f .room) b (f .fits), a, l)
+
+  pub same-behind : behind (fieldsBehind k c h o) ≡ o
+  same-behind = behind-again k c h o (f .room)
+
+  pub same-header : headerLength k (fieldsBehind k c h o) ≡ h
+  same-header = header-again k c h o (f .room) (f .fits)
 
 -- reading a packet that is refused nothing and building from its fields gives the packet, octet for octet
 pub read-built : (k : Kind) (c : Bool) (p : List ℕ) → wellFormed k p ≡ true → length p ≤ 2142 → againstCheck k (fieldsOf k c p) ≡ false
@@ -219,8 +256,11 @@ pub read-built : (k : Kind) (c : Bool) (p : List ℕ) → wellFormed k p ≡ tru
 unfolding building packetOf
 read-built k c p w l a o s =
     let f = formed-facts k p w in
-    let m : chl p ≤ length (drop 3 p) = rw length-drop (omega arith) in
-    let b : chl p ≤ 255 = omega (arith, o 2) in
+    let i = within-facts k (chl p) (drop 3 p) (formed-within k p w) in
     let q : packetOf k (fieldsOf k c p) ≡ p =
-    rw (header-again k c (chl p) (drop 3 p) (f .room) m, behind-again k c (chl p) (drop 3 p) (f .room)) (packet-again k p f (o 1)) in
-    rw (against-again k c p (f .room) s, misfit-again k c (chl p) (drop 3 p) (f .room) b m, a) (sized-again (packetOf k (fieldsOf k c p)) p q l)
+    rw (same-header k c (chl p) (drop 3 p) i, same-behind k c (chl p) (drop 3 p) i) (packet-again k p f (o 1)) in
+    let b : chl p ≤ 255 = omega (arith, o 2) in
+    let t : ltb 2142 (length (packetOf k (fieldsOf k c p))) ≡ false =
+    ap (λ (x : List ℕ). ltb 2142 (length x)) q ∙ le-ltb 2142 (length p) l in
+    fitting-again k c (chl p) (drop 3 p) i (gives (packetOf k (fieldsOf k c p))) b a (λ e. rw (getD-drop 3 p 0 0) (s e))
+    (ltb 2142 (length (packetOf k (fieldsOf k c p)))) t ∙ ap gives q

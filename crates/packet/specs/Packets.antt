@@ -69,6 +69,11 @@ abbrev pub fieldsBehind : Kind → Bool → ℕ → List ℕ → Fields
 fieldsBehind k true header o = ciphered (take (before k) o) header (drop (before k) o)
 fieldsBehind k false header o = plain (take (least k) o) (take (header - least k) (drop (least k) o)) (drop header o)
 
+-- "CHL at least 13" (a response 10), and the header ends within the octets behind the lengths: so much every carrier asks of them, however
+-- it codes the lengths.
+abbrev pub within : Kind → ℕ → List ℕ → Bool
+within k header o = leb (least k) header && leb header (length o)
+
 -- The fields of a packet, where it is said whether the body is ciphered.
 abbrev pub fieldsOf : Kind → Bool → List ℕ → Fields
 fieldsOf k c p = fieldsBehind k c (chl p) (drop 3 p)
@@ -76,6 +81,10 @@ fieldsOf k c p = fieldsBehind k c (chl p) (drop 3 p)
 -- "Commands are ciphered when bit 3 (the 4s place) of SPI's first octet is set."
 abbrev pub cipherBit : ℕ → Bool
 cipherBit spi = eqb (spi / 4 % 2) 1
+
+-- SPI's first octet is the first behind the lengths of a command.
+abbrev pub cipheredBehind : List ℕ → Bool
+cipheredBehind o = cipherBit (getD o 0 0)
 
 abbrev pub cipheredCommand : List ℕ → Bool
 cipheredCommand p = cipherBit (getD p 3 0)
@@ -105,6 +114,23 @@ abbrev pub measured : Fields → Parsed
 measured (plain f c d) = plainParsed f (length c) (length d)
 measured (ciphered f h o) = cipheredParsed f h (length o)
 
+-- what every carrier asks of the octets behind the lengths: 9, 15
+abbrev pub readableBehind : {A : Type 0} → Kind → Bool → ℕ → List ℕ → Outcome A → Outcome A
+readableBehind k c header o x =
+    refuse 9 when not (within k header o) otherwise
+    refuse 15 when againstCheck k (fieldsBehind k c header o) otherwise
+    x
+
+unfoldable pub parsingBehind : Kind → Bool → ℕ → List ℕ → Outcome Parsed
+parsingBehind k c header o = readableBehind k c header o (gives (measured (fieldsBehind k c header o)))
+
+-- what a packet of 01 is asked first: 9, 12
+abbrev pub sized : {A : Type 0} → Kind → List ℕ → Outcome A → Outcome A
+sized k p o =
+    refuse 9 when not (wellFormed k p) otherwise
+    refuse 12 when ltb mostOctets (length p) otherwise
+    o
+
 abbrev pub readable : {A : Type 0} → Kind → Bool → List ℕ → Outcome A → Outcome A
 readable k c p o =
     refuse 9 when not (wellFormed k p) otherwise
@@ -133,6 +159,20 @@ checkOf (ciphered f h o) = []
 abbrev pub opaqueOf : Fields → List ℕ
 opaqueOf (plain f c d) = []
 opaqueOf (ciphered f h o) = o
+
+-- The same of the octets behind the lengths, where reading came to a header length or was refused.
+abbrev pub shownBy : (ℕ → List ℕ) → Outcome ℕ → List ℕ
+shownBy f (refused n) = []
+shownBy f (gives header) = f header
+
+abbrev pub dataBy : Kind → Bool → List ℕ → Outcome ℕ → List ℕ
+dataBy k c o = shownBy (λ header. securedOf (fieldsBehind k c header o))
+
+abbrev pub checkBy : Kind → Bool → List ℕ → Outcome ℕ → List ℕ
+checkBy k c o = shownBy (λ header. checkOf (fieldsBehind k c header o))
+
+abbrev pub opaqueBy : Kind → Bool → List ℕ → Outcome ℕ → List ℕ
+opaqueBy k c o = shownBy (λ header. opaqueOf (fieldsBehind k c header o))
 
 unfoldable pub shownData : Kind → Bool → List ℕ → List ℕ
 shownData k c p = shown (readable k c p (gives (securedOf (fieldsOf k c p))))
@@ -175,6 +215,15 @@ abbrev pub misfit : Kind → Fields → Bool
 misfit k (plain f c d) = ltb (255 - least k) (length c)
 misfit k (ciphered f h o) = ltb h (least k) || ltb 255 h || ltb (length o) (h - before k)
 
+-- the refusals of fields in their order, whatever carries them; `long` says whether they are too many for it
+abbrev pub fitting : {A : Type 0} → Kind → Fields → Bool → Outcome A → Outcome A
+fitting k x long o =
+    refuse 10 when againstSpi k x otherwise
+    refuse 11 when misfit k x otherwise
+    refuse 15 when againstCheck k x otherwise
+    refuse 12 when long otherwise
+    o
+
 unfoldable pub building : Kind → Fields → Outcome (List ℕ)
 building k x =
     refuse 10 when againstSpi k x otherwise
@@ -196,9 +245,13 @@ abbrev pub fixedOctets : Kind → List ℕ
 fixedOctets Command = []
 fixedOctets Response = 0x02 ∷ 0x71 ∷ 0x00 ∷ []
 
--- "plain bodies only: the packet from its length field to the end without the check field"
+-- "plain bodies only: the packet from its length field to the end without the check field". The octets behind the lengths begin at the place
+-- `start`: what is before the check field with all that is before it, and the data.
+abbrev pub runsFrom : ℕ → Kind → ℕ → List ℕ → List ℕ
+runsFrom start k header p = take (start + least k) p ++ drop (start + header) p
+
 abbrev pub withoutCheck : Kind → List ℕ → List ℕ
-withoutCheck k p = take (3 + least k) p ++ drop (3 + chl p) p
+withoutCheck k p = runsFrom 3 k (chl p) p
 
 unfoldable pub checksumOctets : Kind → Bool → List ℕ → Outcome (List ℕ)
 checksumOctets k c p =
@@ -208,6 +261,17 @@ checksumOctets k c p =
 
 abbrev pub mostChecksum : ℕ
 mostChecksum = 2145
+
+-- what every carrier asks of the octets behind the lengths, and their runs: 1, 9, 12, 15, 10
+unfoldable pub summed : Kind → Bool → (start header : ℕ) → List ℕ → List ℕ → Lent
+summed k c start header p buffer =
+    into mostChecksum
+    (refuse 9 when not (within k header (drop start p)) otherwise
+    refuse 12 when ltb mostOctets (length p) otherwise
+    refuse 15 when againstCheck k (fieldsBehind k c header (drop start p)) otherwise
+    refuse 10 when c otherwise
+    gives (fixedOctets k ++ runsFrom start k header p))
+    buffer
 
 unfoldable pub checksummed : Kind → Bool → List ℕ → List ℕ → Lent
 checksummed k c p buffer = into mostChecksum (checksumOctets k c p) buffer

@@ -9,7 +9,7 @@ put-run-requires : tie.Need-put-run-requires
 put-run-requires c κs =
     let fixed = c .before .before .before .before .before in
     let start = fixed .before .before .before .before in
-    front-fits _ _ _ _ _ _ _ _ (start .pre .0) (start .pre .1) (fixed .fixed .ensures) (c .before .before .least .ensures .0) refl _ (c .before .up-to .ensures) (fixed .fixed .kept .1 .0)
+    front-fits (start .args .kind) _ _ _ _ _ _ _ _ (start .pre .0) (start .pre .1) (fixed .fixed .ensures) (c .before .before .least .ensures .0) refl _ (c .before .up-to .ensures) (fixed .fixed .kept .1 .0)
 
 put-run-requires-2 : tie.Need-put-run-requires-2
 put-run-requires-2 c κs =
@@ -17,7 +17,7 @@ put-run-requires-2 c κs =
     let up = run .before .before in
     let fixed = up .before .before .before .before in
     let start = fixed .before .before .before .before in
-    data-fits _ _ _ _ _ _ _ _ (start .pre .0) (start .pre .1) (fixed .fixed .ensures) (up .before .least .ensures .0) refl _ _ (up .up-to .ensures) _ (run .put-run .ensures)
+    data-fits (start .args .kind) _ _ _ _ _ _ _ _ (start .pre .0) (start .pre .1) (fixed .fixed .ensures) (up .before .least .ensures .0) refl _ _ (up .up-to .ensures) _ (run .put-run .ensures)
     (run .put-run .kept .1 .0 ∙ fixed .fixed .kept .1 .0)
 
 returns : tie.Need-returns
@@ -27,7 +27,7 @@ returns c =
     let up = run .before .before in
     let fixed = up .before .before .before .before in
     let start = fixed .before .before .before .before in
-    all-collected _ _ _ _ _ _ _ _ (start .pre .0) (start .pre .1) (fixed .fixed .ensures) (up .before .least .ensures .0) refl _ _ (up .up-to .ensures) _ (run .put-run .ensures) _ _
+    all-collected (start .args .kind) _ _ _ _ _ _ _ _ (start .pre .0) (start .pre .1) (fixed .fixed .ensures) (up .before .least .ensures .0) refl _ _ (up .up-to .ensures) _ (run .put-run .ensures) _ _
     (last .put-run2 .ensures)
 
 pub collect-spec : {M : Type 1} → statement M

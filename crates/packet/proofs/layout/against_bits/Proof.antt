@@ -1,5 +1,5 @@
 -- `against_bits` meets its contract. Only a command has check bits.
-use Rattle.packet.proofs.Reading.{steps}
+use Rattle.packet.proofs.Fields.{steps}
 use Rattle.packet.proofs.layout.against_bits.Statement.{statement}
 use Rattle.packet.proofs.layout.against_bits.Tie as tie
 

@@ -1,5 +1,5 @@
 -- `before` meets its contract. The two kinds are two arms, and in each the numbers compute.
-use Rattle.packet.proofs.Reading.{steps}
+use Rattle.packet.proofs.Fields.{steps}
 use Rattle.packet.proofs.layout.before.Statement.{statement}
 use Rattle.packet.proofs.layout.before.Tie as tie
 

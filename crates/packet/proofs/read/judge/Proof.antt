@@ -1,9 +1,10 @@
--- `judge` meets its contract. The refusals stand in the rule's order, and a well-formed packet has its lengths and its SPI.
+-- `judge` meets its contract. What is asked first is refused first, and the check bits are those behind the lengths.
 use Rattle.packet.proofs.Reading.{steps}
 use Rattle.packet.proofs.read.judge.Statement.{statement}
 use Rattle.packet.proofs.read.judge.Tie as tie
 
 pub judge-spec : {M : Type 1} → statement M
 judge-spec =
-    tie.close (tie.spec (λ c κs. search steps) (λ c. search steps) (λ c. search steps) (λ c κs. search steps) (λ c κs. search steps)
-    (λ c. search steps) (λ c. search steps))
+    tie.close
+    (tie.spec (λ c κs. search steps) (λ c. search steps) (λ c. search steps) (λ c κs. search steps)
+    (λ c κs. search steps) (λ c. search steps) (λ c. search steps) (λ c. search steps))

@@ -1,65 +1,10 @@
--- `opaque_of` meets its contract. A plain or refused packet shows nothing; CNTR of any other lies inside it.
+-- `opaque_of` meets its contract. What is refused or plain shows nothing; of any other all from CNTR on is shown.
 use Rattle.packet.proofs.Showing.{steps}
 use Rattle.packet.proofs.show.opaque_of.Statement.{statement}
 use Rattle.packet.proofs.show.opaque_of.Tie as tie
 
-sub-result : tie.Need-sub-result
-sub-result c = search steps
-
-part-result-start : tie.Need-part-result-start
-part-result-start c = search steps
-
-part-result-end : tie.Need-part-result-end
-part-result-end c = search steps
-
-returns : tie.Need-returns
-returns c = search steps
-
-judge-requires : tie.Need-judge-requires
-judge-requires c κs = search steps
-
-enum-told : tie.Need-enum-told
-enum-told c = search steps
-
-enum-told-2 : tie.Need-enum-told-2
-enum-told-2 c = search steps
-
-sub-result-2 : tie.Need-sub-result-2
-sub-result-2 c = search steps
-
-part-result-start-2 : tie.Need-part-result-start-2
-part-result-start-2 c = search steps
-
-part-result-end-2 : tie.Need-part-result-end-2
-part-result-end-2 c = search steps
-
-returns-2 : tie.Need-returns-2
-returns-2 c = search steps
-
-before-requires : tie.Need-before-requires
-before-requires c κs = search steps
-
-tail-requires : tie.Need-tail-requires
-tail-requires c κs = search steps
-
-returns-3 : tie.Need-returns-3
-returns-3 c = search steps
-
 pub opaque-of-spec : {M : Type 1} → statement M
 opaque-of-spec =
     tie.close
-    (tie.spec
-    sub-result
-    part-result-start
-    part-result-end
-    returns
-    judge-requires
-    enum-told
-    enum-told-2
-    sub-result-2
-    part-result-start-2
-    part-result-end-2
-    returns-2
-    before-requires
-    tail-requires
-    returns-3)
+    (tie.spec (λ c. search steps) (λ c. search steps) (λ c. search steps) (λ c. search steps) (λ c. search steps)
+    (λ c. search steps) (λ c κs. search steps) (λ c κs. search steps) (λ c κs. search steps) (λ c. search steps))
