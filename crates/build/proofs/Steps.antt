@@ -1,17 +1,17 @@
 -- What the proofs of `build` cite: one law for each return, over plain variables.
 use Prim.Native.Nat.{ℕ, _+_, _-_, _%_, _≤_, _<_}
 use mathlib.Core.Path.{_≡_, refl, sym, ap, _∙_}
-use mathlib.Core.Bool.{Bool, true, false, _||_}
+use mathlib.Core.Bool.{Bool, true, false, not, _||_}
 use mathlib.Core.List.{List, [], _∷_, _++_, append-nil, append-assoc}
 use native.Mathlib.Omega.{arith}
 use lib.ListN.{length, getD, drop, length-append, length-drop, List·getD-append}
 use lib.Seq.{getD-drop}
-use lib.Dec.{ltb}
+use lib.Dec.{ltb, leb}
 use borrow.Author.Needs.{needs}
-use borrow.Author.Tests.{lt-ltb, le-ltb, ltb-true, ltb-false, eq-eqb, ne-eqb}
+use borrow.Author.Tests.{not-true, not-false, lt-ltb, le-ltb, ltb-true, ltb-false, lt-leb, le-leb, leb-true, leb-false, eq-eqb, ne-eqb}
 use Rattle.types.specs.declared.Pair.{Pair}
-use Rattle.octets.specs.Octets.{pairOf, placed, afterPut}
-use Rattle.octets.specs.Laws.{put-fits, placed-start, put-behind}
+use Rattle.octets.specs.Octets.{pairOf, placed, fitsAt, afterPut}
+use Rattle.octets.specs.Laws.{put-fits, length-placed, placed-start, placed-next}
 use Rattle.types.specs.declared.Kind.{Kind}
 use Rattle.types.specs.declared.Kind.the-variants.{Command}
 use Rattle.types.specs.declared.Refusal.{Refusal}
@@ -43,6 +43,13 @@ same-ltb a b c d p q = go (ltb a b) refl
     go true e = e ∙ sym (lt-ltb c d (p (ltb-true a b e)))
     go false e = e ∙ sym (le-ltb c d (q (ltb-false a b e)))
 
+same-leb : (a b c d : ℕ) → (a ≤ b → c ≤ d) → (b < a → d < c) → leb a b ≡ leb c d
+same-leb a b c d p q = go (leb a b) refl
+  where
+    go : (t : Bool) → leb a b ≡ t → leb a b ≡ leb c d
+    go true e = e ∙ sym (le-leb c d (p (leb-true a b e)))
+    go false e = e ∙ sym (lt-leb c d (q (leb-false a b e)))
+
 module _ (h f b : ℕ) (few : h ≤ 16) where
   pub over-front : 2142 - h < f → true ≡ ltb 2142 (h + (f + b))
   over-front l = sym (lt-ltb 2142 (h + (f + b)) (omega arith))
@@ -56,14 +63,55 @@ pub lengths-set : (h o : List ℕ) (c : Pair) (n header : ℕ) → 3 ≤ length 
 lengths-set h o c n header l e f =
     f ∙ put-fits h 0 (c .0 ∷ c .1 ∷ header ∷ []) l ∙ placed-start h (c .0 ∷ c .1 ∷ header ∷ []) ∙ rw e
 
-pub filled : (d h f b x y z : List ℕ) → length h + (length f + length b) ≤ length d → x ≡ afterPut d 0 h → y ≡ afterPut x (length h) f
-    → z ≡ afterPut y (length h + length f) b → z ≡ placed d 0 (h ++ (f ++ b))
-filled d h f b x y z l p q r =
-    let u : x ≡ placed d 0 h = p ∙ put-fits d 0 h (omega arith) in
-    let v : y ≡ placed d 0 (h ++ f) = put-behind d h f x y (length h) u refl (omega arith) q in
-    let w : z ≡ placed d 0 ((h ++ f) ++ b) =
-    put-behind d (h ++ f) b y z (length h + length f) v (sym (length-append h f)) (rw length-append (omega arith)) r in
+-- three runs, from a place on
+module _ (n at h f b : ℕ) where
+  pub place-past : n < at → false ≡ leb (at + (h + (f + b))) n
+  place-past l = sym (lt-leb (at + (h + (f + b))) n (omega arith))
+
+  module _ (l : at ≤ n) where
+    pub head-past : n - at < h → false ≡ leb (at + (h + (f + b))) n
+    head-past m = sym (lt-leb (at + (h + (f + b))) n (omega arith))
+
+    module _ (m : h ≤ n - at) where
+      pub front-past : n - at - h < f → false ≡ leb (at + (h + (f + b))) n
+      front-past p = sym (lt-leb (at + (h + (f + b))) n (omega arith))
+
+      pub back-fits : f ≤ n - at - h → leb b (n - at - h - f) ≡ leb (at + (h + (f + b))) n
+      back-fits p = same-leb b (n - at - h - f) (at + (h + (f + b))) n (λ q. omega arith) (λ q. omega arith)
+
+pub filled : (d h f b x y z : List ℕ) (at : ℕ) → at + (length h + (length f + length b)) ≤ length d → x ≡ afterPut d at h → y ≡ afterPut x (at + length h) f
+    → z ≡ afterPut y (at + length h + length f) b → z ≡ placed d at (h ++ (f ++ b))
+filled d h f b x y z at room p q r =
+    let u : x ≡ placed d at h = p ∙ put-fits d at h (omega arith) in
+    let m : length x ≡ length d = ap length u ∙ length-placed d at h (omega arith) in
+    let v : y ≡ placed d at (h ++ f) = q ∙ put-fits x (at + length h) f (omega arith) ∙ rw u (placed-next d at h f (omega arith)) in
+    let o : length (h ++ f) ≡ length h + length f = length-append h f in
+    let n : length y ≡ length d = ap length v ∙ length-placed d at (h ++ f) (omega arith) in
+    let a : at + length h + length f ≡ at + length (h ++ f) = omega arith in
+    let w : z ≡ placed d at ((h ++ f) ++ b) =
+    r ∙ put-fits y (at + length h + length f) b (omega arith) ∙ rw (a, v) (placed-next d at (h ++ f) b (omega arith)) in
     rw append-assoc at w
+
+module _ (d h f b : List ℕ) (at : ℕ) (t : Bool) (e : t ≡ leb (at + (length h + (length f + length b))) (length d)) where
+  fits-is : fitsAt d at (h ++ (f ++ b)) ≡ t
+  fits-is = let n : length (h ++ (f ++ b)) ≡ length h + (length f + length b) = simp length-append refl in rw n (sym e)
+
+  module _ (s : not t ≡ true) where
+    pub runs-unfit : false ≡ fitsAt d at (h ++ (f ++ b))
+    runs-unfit = sym (fits-is ∙ not-true t s)
+
+    pub runs-stay : d ≡ afterPut d at (h ++ (f ++ b))
+    runs-stay = rw (fits-is, not-true t s)
+
+  module _ (s : not t ≡ false) where
+    pub runs-room : at + (length h + (length f + length b)) ≤ length d
+    runs-room = leb-true (at + (length h + (length f + length b))) (length d) (sym e ∙ not-false t s)
+
+    pub runs-fit : true ≡ fitsAt d at (h ++ (f ++ b))
+    runs-fit = sym (fits-is ∙ not-false t s)
+
+    pub runs-put : (z : List ℕ) → z ≡ placed d at (h ++ (f ++ b)) → z ≡ afterPut d at (h ++ (f ++ b))
+    runs-put z g = g ∙ rw (fits-is, not-false t s)
 
 module _ (d h f b : List ℕ) (header : ℕ) (room : 3 ≤ length h) where
   abbrev rest : List ℕ
@@ -197,6 +245,15 @@ pub ruleset steps = (
   outside-short,
   outside-else,
   lengths-set,
+  place-past,
+  head-past,
+  front-past,
+  back-fits,
+  runs-unfit,
+  runs-stay,
+  runs-room,
+  runs-fit,
+  runs-put,
   filled,
   over-front,
   over-back,

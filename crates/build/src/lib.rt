@@ -12,8 +12,8 @@ ghost use mathlib.Core.Path.{_≡_};
 ghost use mathlib.Core.List.{_∷_, _++_};
 ghost use Prim.Native.Nat.{_+_, _-_, _%_, _≤_};
 ghost use lib.ListN.{length, getD, drop};
-ghost use lib.Dec.{ltb};
-ghost use Rattle.octets.specs.Octets.{pairOf, placed};
+ghost use lib.Dec.{ltb, leb};
+ghost use Rattle.octets.specs.Octets.{pairOf, placed, fitsAt, afterPut};
 ghost use Rattle.types.specs.Refusals.{gives, lent, writes, toldWritten};
 ghost use Rattle.packet.specs.Packets.{before, least, plain, ciphered, mostOctets, packetFrom, built};
 ghost use Rattle.packet.specs.Told.{tarOctets, clearOctets, commandFixed, responseFixed};
@@ -99,16 +99,46 @@ fn set_lengths(head: &mut [u8], size: usize, header: usize)
     octets::put(&lengths, head, 0);
 }
 
-// Puts three runs of octets one behind the other at the buffer's start.
-fn fill(head: &[u8], front: &[u8], back: &[u8], out: &mut [u8])
-    requires { ⌜ length (now head) + (length (now front) + length (now back)) ≤ length (now out) ⌝ }
-    ensures { λ _. ⌜ now (out .exit) ≡ placed (now (out .entry)) 0 (now (head .entry) ++ (now (front .entry) ++ now (back .entry))) ⌝ }
+// Whether three runs of octets fit into a buffer from a place on. They are compared one after the other, since the sum of three lengths might not
+// fit.
+fn fit(buffer: usize, at: usize, head: usize, front: usize, back: usize) -> bool
+    ensures { λ r. ⌜ r ≡ leb (at + (head + (front + back))) buffer ⌝ }
 {
-    let at = head.len();
-    let next = at + front.len();
-    octets::put(head, out, 0);
-    octets::put(front, out, at);
-    octets::put(back, out, next);
+    if buffer < at {
+        return false;
+    }
+    let room = buffer - at;
+    if room < head {
+        return false;
+    }
+    if room - head < front {
+        return false;
+    }
+    back <= room - head - front
+}
+
+// Puts three runs of octets that fit one behind the other into the buffer, from a place on.
+fn fill(head: &[u8], front: &[u8], back: &[u8], out: &mut [u8], at: usize)
+    requires { ⌜ at + (length (now head) + (length (now front) + length (now back))) ≤ length (now out) ⌝ }
+    ensures { λ _. ⌜ now (out .exit) ≡ placed (now (out .entry)) at (now (head .entry) ++ (now (front .entry) ++ now (back .entry))) ⌝ }
+{
+    let next = at + head.len();
+    let last = next + front.len();
+    octets::put(head, out, at);
+    octets::put(front, out, next);
+    octets::put(back, out, last);
+}
+
+// Puts three runs of octets one behind the other into the buffer, from a place on, and says whether they fit; if they do not, it stays as it was.
+pub fn put_runs(head: &[u8], front: &[u8], back: &[u8], out: &mut [u8], at: usize) -> bool
+    ensures { λ r. ⌜ r ≡ fitsAt (now (out .entry)) at (now (head .entry) ++ (now (front .entry) ++ now (back .entry))) ⌝ }
+    ensures { λ _. ⌜ now (out .exit) ≡ afterPut (now (out .entry)) at (now (head .entry) ++ (now (front .entry) ++ now (back .entry))) ⌝ }
+{
+    if !fit(out.len(), at, head.len(), front.len(), back.len()) {
+        return false;
+    }
+    fill(head, front, back, out, at);
+    true
 }
 
 // Writes a packet whose head has room for the lengths in front, and says how many octets it has.
@@ -118,7 +148,7 @@ fn write(header: usize, head: &mut [u8], front: &[u8], back: &[u8], out: &mut [u
 {
     let size = head.len() + (front.len() + back.len());
     set_lengths(head, size, header);
-    fill(head, front, back, out);
+    fill(head, front, back, out, 0);
     size
 }
 
