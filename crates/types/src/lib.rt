@@ -299,6 +299,13 @@ pub const PAGE_OCTETS: usize = 88;
 
 pub const PAGE_CONTENT: usize = 82;
 
+// The most octets of a USSD string, which is the buffer of writing one, and of its UM behind the PFI; and the data coding scheme of binary data.
+pub const USSD_OCTETS: usize = 160;
+
+pub const UM_OCTETS: usize = 159;
+
+pub const USSD_DCS: u8 = 0x96;
+
 // ---- counters
 // The most applications whose counters a table holds.
 pub const COUNTER_ENTRIES: usize = 16;

@@ -1,0 +1,3 @@
+pub mod Ussd
+pub mod Laws
+pub mod Within
