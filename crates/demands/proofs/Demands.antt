@@ -18,6 +18,7 @@ use Rattle.demands.proofs.Reports as reports
 use Rattle.demands.proofs.Reachable as reachable
 use Rattle.demands.proofs.NeverMade as never
 use Rattle.demands.proofs.Shuffled as shuffled
+use Rattle.demands.proofs.Ussd as ussd
 
 pub demand-1 : Demand1
 demand-1 = record {
@@ -29,6 +30,9 @@ demand-1 = record {
   writing-user-data = refusing.writing-refused;
   writing-a-page = refusing.page-refused;
   writing-a-report = refusing.report-refused;
+  reading-ussd = refusing.ussd-reading-refused;
+  writing-ussd = refusing.ussd-writing-refused;
+  ussd-checksum-octets = refusing.ussd-checksum-refused;
   announcing = refusing.announcing-refused;
   judging-a-counter = refusing.judging-refused;
   sending-a-command = refusing.sending-refused;
@@ -71,6 +75,7 @@ demand-2 = record {
   none-lost-either = reports.none-lost-either;
   editions-alike = reports.editions-alike;
   either-accepted = reports.either-accepted;
+  ussd-messages = ussd.ussd-messages;
 }
 
 pub demand-3 : (n : ℕ) → Slots n → Demand3 n

@@ -15,6 +15,7 @@ pub mod RoundTrips
 pub mod Checked
 pub mod Counters
 pub mod Gateway
+pub mod Ussd
 pub mod SplitTaken
 pub mod Written
 pub mod Delivery

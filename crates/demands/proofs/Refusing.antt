@@ -36,8 +36,9 @@ use Rattle.counters.specs.Counters.{unfitCounters, judgedBy, orLeaves, judgeCou
 use Rattle.types.specs.declared.Outstanding.{Outstanding}
 use Rattle.gateway.specs.Gateway as gateway
 use Rattle.report.specs.Reporting as report
-use Rattle.demands.specs.Refusing.{Leaves, unaltered, dropped, TakingRefused, BuildingRefused, ChecksumRefused, WritingRefused, PageRefused, ReportRefused, JudgingRefused, SendingRefused, ClosingRefused, ParsingRefused, AnnouncingRefused, UnfitRefused, MakingRefused, SalvagingRefused, BeatRefused}
+use Rattle.demands.specs.Refusing.{Leaves, unaltered, dropped, TakingRefused, BuildingRefused, ChecksumRefused, WritingRefused, PageRefused, ReportRefused, JudgingRefused, SendingRefused, ClosingRefused, ParsingRefused, AnnouncingRefused, UnfitRefused, MakingRefused, SalvagingRefused, BeatRefused, UssdWritingRefused, UssdChecksumRefused, UssdReadingRefused}
 use Rattle.capture.specs.Captures.{salvaged, mostCapture, salvaging}
+use Rattle.ussd.specs.Ussd as ussd
 use Rattle.demands.specs.Runs.{Slots}
 use Rattle.demands.proofs.Calls.{isPage, taking-any}
 use Rattle.demands.proofs.Capture.{salvages-or-refuses}
@@ -155,6 +156,36 @@ pub salvaging-refused : SalvagingRefused
 unfolding salvaging
 salvaging-refused file output =
     written-left (refuse 24 when ltb mostCapture (length file) otherwise refuse 1 when not (eqb (length output) (length file)) otherwise outcome.gives (salvaged file)) output
+-- ---- USSD strings
+pub ussd-writing-refused : UssdWritingRefused
+unfolding ussd.writtenUssd
+ussd-writing-refused pfi x buffer = into-left ussd.mostString (ussd.writingUssd pfi x) buffer
+
+pub ussd-checksum-refused : UssdChecksumRefused
+unfolding ussd.ussdChecksummed
+ussd-checksum-refused um buffer = into-left mostChecksum (ussd.ussdChecksumOctets um) buffer
+
+nothing-read : {A : Type 0} (number : ℕ) (x : A) (y : List ℕ) (a b c d : Bool)
+    → (refuse 2 when a otherwise refuse 5 when b otherwise refuse 9 when c otherwise refuse 15 when d otherwise outcome.gives x) ≡ outcome.refused number
+    → shown (refuse 2 when a otherwise refuse 5 when b otherwise refuse 9 when c otherwise refuse 15 when d otherwise outcome.gives y) ≡ []
+nothing-read number x y true b c d e = refl
+nothing-read number x y false true c d e = refl
+nothing-read number x y false false true d e = refl
+nothing-read number x y false false false true e = refl
+nothing-read number x y false false false false e = let z : _≡_ {A = ℕ} 0 1 = cc in absurd (omega arith)
+
+pub ussd-reading-refused : UssdReadingRefused
+unfolding ussd.readUssd ussd.shownUssdData ussd.shownUssdCheck ussd.shownUssdOpaque
+ussd-reading-refused pfi dcs s number e = record {
+  secured = none (securedOf (ussd.umFields (drop 1 s)));
+  check = none (checkOf (ussd.umFields (drop 1 s)));
+  opaque = none (opaqueOf (ussd.umFields (drop 1 s)));
+}
+  where
+    none : (y : List ℕ) → shown (ussd.readableUssd pfi dcs s (outcome.gives y)) ≡ []
+    none y =
+        nothing-read number (measured (ussd.umFields (drop 1 s))) y (ltb ussd.mostString (length s)) (not (ussd.addressed pfi dcs s)) (not (ussd.umFormed (drop 1 s)))
+        (againstCheck Command (ussd.umFields (drop 1 s))) e
 
 -- ---- judging a counter
 table-left : (c : Counters) (o : outcome.Outcome (ℕ × Counters)) (number : ℕ) → orLeaves c o .answer ≡ outcome.refused number → orLeaves c o .counters ≡ c
@@ -226,6 +257,7 @@ unfit-into size o buffer ne = rw (ne-eqb (length buffer) size ne)
 
 pub unfit-refused : (n : ℕ) → UnfitRefused n
 unfolding beat built checksummed split.writing split.writeMessage split.writingPage split.writePage report.reporting report.writeReport
+unfolding built checksummed ussd.writtenUssd ussd.ussdChecksummed split.writing split.writeMessage split.writingPage split.writePage report.reporting report.writeReport
 unfit-refused n = record {
   taking-cells = λ s i ne. unfit-taken n s i (rw (ne-eqb (length (s .cells)) (cellsSize n) ne));
   taking-output = λ s i ne. unfit-taken n s i (rw (ne-eqb (length (s .output)) mostOctets ne, or-true (not (eqb (length (s .cells)) (cellsSize n)))));
@@ -237,6 +269,8 @@ unfit-refused n = record {
   writing-a-page = λ serial identifier dcs p which buffer ne. rw (ne-eqb (length buffer) pageOctets ne);
   writing-a-report = λ edition spi capacity p buffer ne. rw (ne-eqb (length buffer) report.mostReport ne);
   salvaging-a-capture = λ file output. salvages-or-refuses file output .one;
+  writing-ussd = λ pfi x buffer. unfit-into ussd.mostString (ussd.writingUssd pfi x) buffer;
+  ussd-checksum-octets = λ um buffer. unfit-into mostChecksum (ussd.ussdChecksumOctets um) buffer;
   put = λ o at p l. (lt-leb (at + length p) (length o) l, rw (lt-leb (at + length p) (length o) l));
 }
 

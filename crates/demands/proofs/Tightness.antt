@@ -73,6 +73,10 @@ use Rattle.types.specs.declared.Announcing.the-variants as announcing
 use Rattle.report.specs.Reporting as report
 use Rattle.demands.specs.Tightness.{Tight, toldBuilt, toldMade, toldPart, toldReport, toldHanded, toldTaken, toldAssessed, toldSent, toldCame, Tellings, PlainPromises, One, Promises, toldBeaten}
 use Rattle.capture.specs.Captures.{nextRun, recordIn}
+use Rattle.ussd.specs.Ussd as ussd
+use Rattle.build.specs.declared.Ruling.{Ruling}
+use Rattle.build.specs.declared.Ruling.the-variants as ruling
+use Rattle.build.specs.Within.{toldRuling}
 
 -- what can be read back is told of one outcome only
 tight : {O P : Type 0} (told : O → P) (back : P → O) → ((r : O) → back (told r) ≡ r) → Tight told
@@ -352,6 +356,15 @@ unfolding cameOf
 came-back r = ap (λ (x : Closing). record { answer = x; outstanding = r .outstanding }) (closing-back (r .answer))
 
 -- ---- calls between crates
+rulingOf : Outcome ℕ → Ruling
+rulingOf (refused n) = ruling.Refused (refusalOf n)
+rulingOf (gives h) = ruling.Allowed
+
+ruling-back : (r : Ruling) → rulingOf (toldRuling r) ≡ r
+unfolding rulingOf
+ruling-back ruling.Allowed = refl
+ruling-back (ruling.Refused r) = ap ruling.Refused (refusal-back r)
+
 judgedOf : Outcome ℕ → Judged
 judgedOf (refused n) = judged.Refused (refusalOf n)
 judgedOf (gives h) = judged.Readable h
@@ -404,6 +417,7 @@ tellings = record {
   command-sent = tight toldSent sentOf sent-back;
   response-came = tight toldCame cameOf came-back;
   judge = tight toldJudged judgedOf judged-back;
+  rule = tight toldRuling rulingOf ruling-back;
   walk = tight toldWalked walkedOf walked-back;
   packet-size = tight toldSize sizeOf size-back;
   hand-out = tight toldHanded handedOf handed-back;
@@ -443,6 +457,13 @@ promises = record {
   response-check = λ p c. plain (shownCheck Response c p);
   response-data = λ p c. plain (shownData Response c p);
   response-opaque = λ p c. plain (shownOpaque Response c p);
+  read-ussd = λ pfi dcs s. tellings .parse-command _;
+  ussd-check = λ pfi dcs s. plain (ussd.shownUssdCheck pfi dcs s);
+  ussd-data = λ pfi dcs s. plain (ussd.shownUssdData pfi dcs s);
+  ussd-opaque = λ pfi dcs s. plain (ussd.shownUssdOpaque pfi dcs s);
+  write-ussd = λ pfi clear cntr pcntr check secured out. tellings .build-and-checksum _;
+  write-ciphered-ussd = λ pfi clear header opaque out. tellings .build-and-checksum _;
+  ussd-checksum = λ um out. tellings .build-and-checksum _;
   read-message = λ k sender ud. tellings .read-message-and-page _;
   read-page = λ k page. tellings .read-message-and-page _;
   own-octets = λ o start. plain (list.drop start o);

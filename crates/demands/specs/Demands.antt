@@ -5,7 +5,7 @@ use mathlib.Core.List.{List}
 use Rattle.types.specs.declared.Kind.{Kind}
 use Rattle.packet.specs.Packets.{Fields}
 use Rattle.types.specs.declared.Key.{Key}
-use Rattle.demands.specs.Refusing.{TakingRefused, ParsingRefused, BuildingRefused, ChecksumRefused, WritingRefused, PageRefused, ReportRefused, JudgingRefused, SendingRefused, ClosingRefused, AnnouncingRefused, UnfitRefused, MakingRefused, SalvagingRefused, BeatRefused}
+use Rattle.demands.specs.Refusing.{TakingRefused, ParsingRefused, BuildingRefused, ChecksumRefused, WritingRefused, PageRefused, ReportRefused, JudgingRefused, SendingRefused, ClosingRefused, AnnouncingRefused, UnfitRefused, MakingRefused, SalvagingRefused, BeatRefused, UssdReadingRefused, UssdWritingRefused, UssdChecksumRefused}
 use Rattle.demands.specs.Runs.{Slots}
 use Rattle.demands.specs.Orders.{OrderFree}
 use Rattle.demands.specs.Twice.{ReadAsWithout, TakenAsWithout, LastReplaces}
@@ -20,6 +20,7 @@ use Rattle.demands.specs.Others.{OthersDoNotShow}
 use Rattle.demands.specs.SplitTaken.{MessagesArrive, PagesArrive}
 use Rattle.demands.specs.Delivery.{MessagesDelivered, PagesDelivered, MessagesWritten, PagesWritten}
 use Rattle.demands.specs.Shuffled.{KeptThenHeld, EitherOrder, AnyOrder}
+use Rattle.demands.specs.Ussd.{UssdMessages}
 use Rattle.demands.specs.Reports.{ReportRefusals, NoneLost, NoneLostEither, EditionsAlike, EitherAccepted}
 
 -- 1. "Every entry point takes every input, does nothing undefined and ends": no public call asks anything of its caller, and each is proved.
@@ -35,6 +36,9 @@ pub record Demand1 : Type 0 where
   pub writing-user-data : WritingRefused
   pub writing-a-page : PageRefused
   pub writing-a-report : ReportRefused
+  pub reading-ussd : UssdReadingRefused
+  pub writing-ussd : UssdWritingRefused
+  pub ussd-checksum-octets : UssdChecksumRefused
   pub announcing : AnnouncingRefused
   pub judging-a-counter : JudgingRefused
   pub sending-a-command : SendingRefused
@@ -78,6 +82,7 @@ pub record Demand2 : Type 0 where
   pub none-lost-either : (n : ℕ) → Slots n → NoneLostEither n
   pub editions-alike : EditionsAlike
   pub either-accepted : EitherAccepted
+  pub ussd-messages : UssdMessages
 
 -- 3. The wake window with n slots, for either kind, every key, every packet and every cut of it: "at most n − 1 other keys" (02 [5]), "fewer beats
 -- than the least limit used" (02 [6]), and the same with the sharper premise that the i-th beat has a limit above i; and "at no moment does one

@@ -17,6 +17,7 @@ pub mod Checked
 pub mod Counters
 pub mod Gateway
 pub mod Capture
+pub mod Ussd
 pub mod SplitTaken
 pub mod Delivery
 pub mod Reports

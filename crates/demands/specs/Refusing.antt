@@ -30,6 +30,7 @@ use Rattle.counters.specs.Counters.{judgeCounter}
 use Rattle.types.specs.declared.SentCommand.{SentCommand}
 use Rattle.types.specs.declared.Outstanding.{Outstanding}
 use Rattle.gateway.specs.Gateway.{commandSent, responseCame}
+use Rattle.ussd.specs.Ussd.{mostString, readUssd, shownUssdData, shownUssdCheck, shownUssdOpaque, writtenUssd, ussdChecksummed}
 use Rattle.demands.specs.Runs.{Slots}
 use Rattle.report.specs.Reporting.{mostReport, reported, writeReport, responseAnnounces}
 use Rattle.capture.specs.Captures.{mostCapture, salvaging}
@@ -87,6 +88,21 @@ ReportRefused =
 
 abbrev pub SalvagingRefused : Type 0
 SalvagingRefused = (file output : List ℕ) (number : ℕ) → salvaging file output .0 ≡ outcome.refused number → salvaging file output .1 ≡ output
+-- ---- USSD strings: the lent buffer stays as it was, and of a string that is refused nothing is shown
+abbrev pub UssdWritingRefused : Type 0
+UssdWritingRefused =
+    (pfi : ℕ) (x : Fields) (buffer : List ℕ) (number : ℕ) → writtenUssd pfi x buffer .0 ≡ outcome.refused number → writtenUssd pfi x buffer .1 ≡ buffer
+
+abbrev pub UssdChecksumRefused : Type 0
+UssdChecksumRefused = (um buffer : List ℕ) (number : ℕ) → ussdChecksummed um buffer .0 ≡ outcome.refused number → ussdChecksummed um buffer .1 ≡ buffer
+
+pub record NothingShownUssd (pfi dcs : ℕ) (s : List ℕ) : Type 0 where
+  pub secured : shownUssdData pfi dcs s ≡ []
+  pub check : shownUssdCheck pfi dcs s ≡ []
+  pub opaque : shownUssdOpaque pfi dcs s ≡ []
+
+abbrev pub UssdReadingRefused : Type 0
+UssdReadingRefused = (pfi dcs : ℕ) (s : List ℕ) (number : ℕ) → readUssd pfi dcs s ≡ outcome.refused number → NothingShownUssd pfi dcs s
 
 -- ---- judging a counter: the table stays as it was
 abbrev pub JudgingRefused : Type 0
@@ -132,6 +148,8 @@ pub record UnfitRefused (n : ℕ) : Type 0 where
       → writeReport edition spi capacity p buffer ≡ reported (outcome.refused 1) buffer
   pub salvaging-a-capture : (file output : List ℕ) → length file ≤ mostCapture → (length output ≡ length file → ⊥)
       → salvaging file output ≡ lent (outcome.refused 1) output
+  pub writing-ussd : (pfi : ℕ) (x : Fields) (buffer : List ℕ) → (length buffer ≡ mostString → ⊥) → writtenUssd pfi x buffer ≡ lent (outcome.refused 1) buffer
+  pub ussd-checksum-octets : (um buffer : List ℕ) → (length buffer ≡ mostChecksum → ⊥) → ussdChecksummed um buffer ≡ lent (outcome.refused 1) buffer
   pub put : (o : List ℕ) (at : ℕ) (p : List ℕ) → length o < at + length p → (fitsAt o at p ≡ false) × (afterPut o at p ≡ o)
 
 -- ---- making a record

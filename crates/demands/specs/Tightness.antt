@@ -56,6 +56,8 @@ use Rattle.gateway.specs.Gateway as gateway
 use Rattle.types.specs.declared.SkippedRun.{SkippedRun}
 use Rattle.types.specs.declared.Captured.{Captured}
 use Rattle.capture.specs.Captures as capture
+use Rattle.ussd.specs.Ussd as ussd
+use Rattle.build.specs.Within.{toldRuling}
 
 -- whatever the rule says, two outcomes of which that is told are the same
 abbrev pub Tight : {Outcome Paper : Type 0} → (Outcome → Paper) → Type 0
@@ -103,10 +105,12 @@ toldCame r = gateway.settled (gateway.toldClosing (r .answer)) (r .outstanding)
 pub record Tellings : Type 0 where
   -- Refusal::number
   pub refusal-number : Tight refusalNumber
-  -- parse_command, parse_response
+  -- parse_command, parse_response, read_ussd
   pub parse-command : Tight toldCommand
   pub parse-response : Tight toldResponse
   -- build_command, build_ciphered_command, build_response, build_ciphered_response, command_checksum, response_checksum, salvage
+  -- build_command, build_ciphered_command, build_response, build_ciphered_response, command_checksum, response_checksum, write_ussd,
+  -- write_ciphered_ussd, ussd_checksum
   pub build-and-checksum : Tight toldBuilt
   -- read_message, read_page
   pub read-message-and-page : Tight toldArrival
@@ -129,7 +133,9 @@ pub record Tellings : Type 0 where
   -- response_came
   pub response-came : Tight toldCame
   -- and of the calls between crates: judge, packet_size, hand_out; and of what walk answers, though its promise is the answer itself
+  -- and of the calls between crates: judge, rule, packet_size, hand_out; and of what walk answers, though its promise is the answer itself
   pub judge : Tight toldJudged
+  pub rule : Tight toldRuling
   pub walk : Tight toldWalked
   pub packet-size : Tight toldSize
   pub hand-out : Tight toldHanded
@@ -137,6 +143,9 @@ pub record Tellings : Type 0 where
 -- Where the promise is that the outcome itself is what the rule says, nothing else can be told of it. So it is of the other calls between
 -- crates: wide, formed, before, least, cipher_bit, ciphered_command, element, nothing, plus, walk, in_range, is_pageless, reference_fits, room,
 -- no_front, extended, front_of, opened, free_slot, with_part, same_key, slots_in, seat_of, at_front, replaced.
+-- crates: wide, formed, before, least, cipher_bit, ciphered_command, header_of, behind_lengths, octet, past, ciphered, within, check_field,
+-- against_check, outside, put_runs, data_of, check_of, opaque_of, element, nothing, plus, walk, in_range, is_pageless, reference_fits, room,
+-- no_front, extended, front_of, opened, free_slot, with_part, same_key, slots_in, seat_of, replaced.
 abbrev pub PlainPromises : Type 1
 PlainPromises = (Outcome : Type 0) → Tight {Outcome = Outcome} {Paper = Outcome} (λ r. r)
 
@@ -179,6 +188,16 @@ pub record Promises : Type 0 where
   pub response-check : (p : List ℕ) (c : Bool) → One (λ (r : List ℕ). r ≡ shownCheck Response c p)
   pub response-data : (p : List ℕ) (c : Bool) → One (λ (r : List ℕ). r ≡ shownData Response c p)
   pub response-opaque : (p : List ℕ) (c : Bool) → One (λ (r : List ℕ). r ≡ shownOpaque Response c p)
+  -- USSD strings
+  pub read-ussd : (pfi dcs : ℕ) (s : List ℕ) → One (λ (r : ParsedCommand). toldCommand r ≡ ussd.readUssd pfi dcs s)
+  pub ussd-check : (pfi dcs : ℕ) (s : List ℕ) → One (λ (r : List ℕ). r ≡ ussd.shownUssdCheck pfi dcs s)
+  pub ussd-data : (pfi dcs : ℕ) (s : List ℕ) → One (λ (r : List ℕ). r ≡ ussd.shownUssdData pfi dcs s)
+  pub ussd-opaque : (pfi dcs : ℕ) (s : List ℕ) → One (λ (r : List ℕ). r ≡ ussd.shownUssdOpaque pfi dcs s)
+  pub write-ussd : (pfi : ℕ) (clear : Clear) (cntr : Cntr) (pcntr : ℕ) (check secured out : List ℕ)
+      → One (λ (r : Written × List ℕ). toldBuilt r ≡ ussd.writtenUssd pfi (plain (commandFixed clear cntr pcntr) check secured) out)
+  pub write-ciphered-ussd : (pfi : ℕ) (clear : Clear) (header : ℕ) (opaque out : List ℕ)
+      → One (λ (r : Written × List ℕ). toldBuilt r ≡ ussd.writtenUssd pfi (ciphered (clearOctets clear) header opaque) out)
+  pub ussd-checksum : (um out : List ℕ) → One (λ (r : Written × List ℕ). toldBuilt r ≡ ussd.ussdChecksummed um out)
   -- arrivals
   pub read-message : (k : Kind) (sender : ℕ) (ud : List ℕ) → One (λ (r : Arrival). toldArrival r ≡ readMessage k sender ud)
   pub read-page : (k : Kind) (page : List ℕ) → One (λ (r : Arrival). toldArrival r ≡ readPage k page)
