@@ -1,4 +1,4 @@
-// Skelmarix: secured packets over short messages and cell broadcast pages. What a user names of the crates below, and nothing of its own; the
+// Skelmarix: secured packets over short messages, cell broadcast pages and USSD strings. What a user names of the crates below, and nothing of its own; the
 // calls that only these crates make of one another stay with them.
 
 // Sizes of what a caller lends, the most slots of a record, the entries of a table of counters and of one of outstanding commands, and what is before the
@@ -13,7 +13,9 @@ pub use types::PACKET_OCTETS;
 pub use types::PAGE_OCTETS;
 pub use types::SLOT_OCTETS;
 pub use types::SLOTS;
+pub use types::UM_OCTETS;
 pub use types::USER_DATA_OCTETS;
+pub use types::USSD_OCTETS;
 
 // What an answer is about: the octets at the start of the buffer that was lent.
 pub use octets::given::packet_in;
@@ -52,6 +54,16 @@ pub use types::ResponseBody;
 pub use types::Spi;
 pub use types::Tar;
 pub use types::Written;
+
+// USSD strings: a command read, shown and written, the octets of its checksum, and the data coding scheme that it comes with.
+pub use types::USSD_DCS;
+pub use ussd::read::read_ussd;
+pub use ussd::read::ussd_check;
+pub use ussd::read::ussd_data;
+pub use ussd::read::ussd_opaque;
+pub use ussd::sum::ussd_checksum;
+pub use ussd::write::write_ciphered_ussd;
+pub use ussd::write::write_ussd;
 
 // Counters: the counter of a command, judged against the one that is stored.
 pub use counters::judge_counter;
