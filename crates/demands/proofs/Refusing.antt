@@ -256,8 +256,7 @@ unfit-into : (size : ℕ) (o : outcome.Outcome (List ℕ)) (buffer : List ℕ) �
 unfit-into size o buffer ne = rw (ne-eqb (length buffer) size ne)
 
 pub unfit-refused : (n : ℕ) → UnfitRefused n
-unfolding beat built checksummed split.writing split.writeMessage split.writingPage split.writePage report.reporting report.writeReport
-unfolding built checksummed ussd.writtenUssd ussd.ussdChecksummed split.writing split.writeMessage split.writingPage split.writePage report.reporting report.writeReport
+unfolding beat built checksummed ussd.writtenUssd ussd.ussdChecksummed split.writing split.writeMessage split.writingPage split.writePage report.reporting report.writeReport
 unfit-refused n = record {
   taking-cells = λ s i ne. unfit-taken n s i (rw (ne-eqb (length (s .cells)) (cellsSize n) ne));
   taking-output = λ s i ne. unfit-taken n s i (rw (ne-eqb (length (s .output)) mostOctets ne, or-true (not (eqb (length (s .cells)) (cellsSize n)))));
