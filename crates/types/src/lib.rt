@@ -13,15 +13,17 @@ pub enum Refusal {
     // 1: a lent buffer of another length than it must have, a record that is not well formed, or a table of commands that says that more than 8
     // entries are in use, or in which two of those are equal. Taking, building, checksum octets, writing, reporting, sending a command, a response
     // that came, salvaging; the beat.
+    // 1: a lent buffer of another length than it must have, or a record that is not well formed. Taking, building, checksum octets, writing,
+    // reporting; writing and summing a USSD string.
     BufferOrRecord,
-    // 2: user data of more than 140 octets, or a page of other than 88. Taking, reading.
+    // 2: user data of more than 140 octets, a page of other than 88, or a USSD string of more than 160. Taking, reading.
     InputLength,
     // 3: user data that are empty, a header length not below theirs, or an element that runs past the header's end. Taking, reading: messages.
     HeaderOverrun,
     // 4: a concatenation or packet identifier element of a wrong length; a page whose number is above its total. Taking, reading.
     HeaderElement,
     // 5: a packet identifier that is missing, out of place or of the other kind; a page for a record of responses; a message identifier
-    // outside 1080 to 109F. Taking, reading, writing a page.
+    // outside 1080 to 109F; a USSD string with another data coding scheme, PFI or identifier. Taking, reading, writing a page.
     WrongIdentifier,
     // 6: more than sixteen parts. Taking, reading: messages.
     TooManyParts,
@@ -31,21 +33,25 @@ pub enum Refusal {
     OtherOctets,
     // 9: octets that are no well-formed packet, or not of the length that its pages allow. Taking, parsing, checksum octets, writing,
     // reporting, judging a counter, a response that came.
+    // 9: octets that are no well-formed packet, or not of the length that its pages allow; a UM that is not well formed, and for its checksum octets one
+    // that is too long or has another identifier. Taking, parsing, checksum octets, writing, reporting, judging a counter, reading a USSD string.
     MalformedPacket,
     // 10: a plain body although SPI says ciphered, or the other way round; checksum octets of a ciphered packet, or its counter judged. Building a
-    // command, checksum octets, judging a counter.
+    // command, checksum octets, judging a counter, writing a USSD string.
     CipherMismatch,
-    // 11: a check field, a header length or opaque octets that the header of a packet cannot have. Building.
+    // 11: a check field, a header length or opaque octets that the header of a packet cannot have. Building, writing a USSD string.
     PacketHeader,
     // 12: a packet longer than can be carried: 2,142 octets, 2,126 with references of 16 bits, 1,230 in pages. Parsing, building, checksum
     // octets, writing, reporting, judging a counter, a response that came.
+    // 12: a packet longer than can be carried: 2,142 octets, 2,126 with references of 16 bits, 1,230 in pages, a UM of 159. Parsing, building,
+    // checksum octets, writing, reporting, judging a counter, writing a USSD string.
     PacketTooLong,
     // 13: a width other than 8 and 16, or a reference that does not fit it. Writing a message.
     ReferenceWidth,
     // 14: a part or page of number 0, or of a number above the total. Writing.
     PartNumber,
     // 15: the check bits of a plain command's SPI say that nothing is checked and there is a check field, or the other way round. Parsing,
-    // building, checksum octets, judging a counter: commands.
+    // building, checksum octets, judging a counter, reading and writing a USSD string: commands.
     CheckMismatch,
     // 16: a capacity of a delivery report outside 16 to 140 octets. Reporting.
     ReportCapacity,
