@@ -12,9 +12,7 @@ pub enum Kind {
 pub enum Refusal {
     // 1: a lent buffer of another length than it must have, a record that is not well formed, or a table of commands that says that more than 8
     // entries are in use, or in which two of those are equal. Taking, building, checksum octets, writing, reporting, sending a command, a response
-    // that came, salvaging; the beat.
-    // 1: a lent buffer of another length than it must have, or a record that is not well formed. Taking, building, checksum octets, writing,
-    // reporting; writing and summing a USSD string.
+    // that came, salvaging, writing and summing a USSD string; the beat.
     BufferOrRecord,
     // 2: user data of more than 140 octets, a page of other than 88, or a USSD string of more than 160. Taking, reading.
     InputLength,
@@ -31,20 +29,17 @@ pub enum Refusal {
     OtherTotal,
     // 8: the part is held with other octets. Taking.
     OtherOctets,
-    // 9: octets that are no well-formed packet, or not of the length that its pages allow. Taking, parsing, checksum octets, writing,
-    // reporting, judging a counter, a response that came.
     // 9: octets that are no well-formed packet, or not of the length that its pages allow; a UM that is not well formed, and for its checksum octets one
-    // that is too long or has another identifier. Taking, parsing, checksum octets, writing, reporting, judging a counter, reading a USSD string.
+    // that is too long or has another identifier. Taking, parsing, checksum octets, writing, reporting, judging a counter, a response that
+    // came, reading a USSD string.
     MalformedPacket,
     // 10: a plain body although SPI says ciphered, or the other way round; checksum octets of a ciphered packet, or its counter judged. Building a
     // command, checksum octets, judging a counter, writing a USSD string.
     CipherMismatch,
     // 11: a check field, a header length or opaque octets that the header of a packet cannot have. Building, writing a USSD string.
     PacketHeader,
-    // 12: a packet longer than can be carried: 2,142 octets, 2,126 with references of 16 bits, 1,230 in pages. Parsing, building, checksum
-    // octets, writing, reporting, judging a counter, a response that came.
     // 12: a packet longer than can be carried: 2,142 octets, 2,126 with references of 16 bits, 1,230 in pages, a UM of 159. Parsing, building,
-    // checksum octets, writing, reporting, judging a counter, writing a USSD string.
+    // checksum octets, writing, reporting, judging a counter, a response that came, writing a USSD string.
     PacketTooLong,
     // 13: a width other than 8 and 16, or a reference that does not fit it. Writing a message.
     ReferenceWidth,
