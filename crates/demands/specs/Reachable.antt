@@ -1,4 +1,4 @@
--- Demand 1's "a record that the library could not have made" (02 [10]): a record is accepted exactly if calls and beats can make it.
+-- Demand 1's "a record that the library could not have made": a record is accepted exactly if calls and beats can make it.
 use Prim.Native.Nat.{ℕ, _<_}
 use mathlib.Core.Path.{_≡_}
 use mathlib.Core.Bool.{true, false}
@@ -52,7 +52,7 @@ pub record MadeIn (n : ℕ) (cells : List ℕ) (r : Record) : Type 0 where
   pub possible : Each Possible events
   pub lead : run n (fresh n (r .kind) cells) events .rec ≡ r
 
--- "a record that the library could not have made": from no fresh record, with no cells
+-- "a record that the library could not have made": no calls and beats lead to it, whatever fresh record and whatever cells they begin with
 abbrev pub NeverMade : Record → Type 0
 NeverMade r = (n : ℕ) → Slots n → (cells : List ℕ) → MadeIn n cells r → ⊥
 
@@ -69,7 +69,7 @@ abbrev pub Exactly : Type 0 → Type 0 → Type 0
 Exactly This That = (This → That) × (That → This)
 
 -- What each call that is given a record says of it, whatever number of slots the record names; what is lent has 01's lengths. The public test
--- says no, taking and the beat refuse it by 1. (A refusal by 1 leaves everything as it was: `Refusing.antt`.)
+-- says no, taking and the beat refuse it by 1. What a refusal leaves is said in `Refusing.antt`.
 pub record RefusedIfNeverMade : Type 0 where
   pub tested : (r : Record) → KeysFit r → Exactly (recordFormed (r .count) r ≡ false) (NeverMade r)
   pub taking : (s : State) (i : Input) → KeysFit (s .rec) → length (s .cells) ≡ cellsSize (s .rec .count) → length (s .output) ≡ mostOctets
