@@ -33,6 +33,7 @@ pub mod Filler
 pub mod Reachable
 pub mod NeverMade
 pub mod Folds
+pub mod Overwritten
 pub mod Seats
 pub mod Shuffled
 pub mod Others
