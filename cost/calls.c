@@ -5,12 +5,20 @@
 #include <string.h>
 #include "calls.h"
 
-enum { SLOT = 2144, CELLS = 5 * SLOT, MOST = 2142, PAGED = 1230, SMALL = 52, WHOLE = 137, UD = 140, PAGE = 88, SUM = 2145, PAINTED = 16384 };
+enum { SLOT = 2144, CELLS = 5 * SLOT, MOST = 2142, PAGED = 1230, SMALL = 52, WHOLE = 137, UD = 140, PAGE = 88, SUM = 2145, FILE_OCTETS = 65536, CAPTURED = 144, PAINTED = 16384 };
 
 static uint8_t cells[CELLS], out[MOST], ud[UD], page[PAGE], sum[SUM];
 static uint8_t packet[MOST], paged[PAGED], small[SMALL], response[MOST], whole[WHOLE];
+static uint8_t file[FILE_OCTETS], salvaged[FILE_OCTETS];
 static Record record;
 static Taken taken;
+static Beaten beaten;
+static Counters counters;
+static Judged judged;
+static Outstanding outstanding;
+static Sent sent;
+static Settled settled;
+static uint8_t limit;
 static size_t length;
 static unsigned char *lowest;
 
@@ -106,6 +114,23 @@ static void first_octets(void) { length = cost_first_octets(packet, MOST, UD); }
 static void packet_in(void) { length = cost_packet_in(UD, out, MOST); }
 static void written_in(void) { length = cost_written_in(UD, out, MOST); }
 static void part_in(void) { length = cost_part_in(UD, ud, UD); }
+static void beat(void) { beaten = cost_beat(record, limit); }
+static void no_counters(void) { counters = cost_no_counters(); }
+static void judge(void) { judged = cost_judge_counter(counters, small, SMALL); }
+static void no_commands(void) { outstanding = cost_no_commands(); }
+static void command_sent(void) { settled = cost_command_sent(outstanding, sent); }
+static void response_came(void) { settled = cost_response_came(outstanding, sent.sender, whole, WHOLE); }
+static void salvage(void) { length = cost_salvage(file, FILE_OCTETS, salvaged, FILE_OCTETS); }
+static void read_captured(void) { length = cost_read_captured(file, CAPTURED); }
+
+/* all octets that are skipped, run by run */
+static void all_skipped(void) {
+    length = 0;
+    for (size_t from = 0; from < FILE_OCTETS;) {
+        Run run = cost_next_skipped(file, FILE_OCTETS, from);
+        length += run.count, from = run.next;
+    }
+}
 
 /* ---- what they work on */
 static void stated(uint8_t *p, const uint8_t *from, size_t n, uint8_t header) {
@@ -238,11 +263,84 @@ static void octets(void) {
     gives("first_octets", first_octets, UD);
 }
 
+static void beats_as(const char *name, uint8_t l, int what, int number) {
+    limit = l;
+    run(name, beat);
+    expect(beaten.what == what && beaten.number == number);
+}
+
+static void beats(void) {
+    fresh();
+    for (uint32_t r = 1; r <= 5; r++) hold(r, 1);
+    beats_as("beat, five slots used, none dropped", 9, 1, 0);
+    expect(beaten.record.slots[0].beats == 1);
+    beats_as("beat, five slots used, all dropped", 1, 1, 5);
+    expect(beaten.record.slots[0].rank == 0);
+    three(), hold(1, 1), hold(2, 1), hold(3, 1);
+    beats_as("beat, three series held, none dropped", 9, 1, 0);
+    record.slots[2].rank = 3, record.slots[1].beats = 7;
+    beats_as("beat, refused 1, record not well formed", 9, 0, 1);
+    three();
+    beats_as("beat, refused 18", 0, 0, 18);
+}
+
+/* 16 entries: the command's TAR is in the last, and its counter is higher; then in none */
+static void judgements(void) {
+    run("no_counters", no_counters);
+    expect(counters.count == 0);
+    counters.count = 16, small[3] = 0x12;
+    for (uint8_t i = 0; i < 16; i++) counters.entries[i].tar[2] = i;
+    memcpy(counters.entries[15].tar, small + 7, 3);
+    run("judge_counter, accepted, the last of 16 entries", judge);
+    expect(judged.what == 1 && judged.number == 0 && !memcmp(judged.counters.entries[15].cntr, small + 10, 5));
+    counters.entries[15].tar[0] ^= 1;
+    run("judge_counter, unknown TAR, 16 entries", judge);
+    expect(judged.what == 1 && judged.number == 9);
+}
+
+static void settles(const char *name, void (*call)(void), int what, int number, int count) {
+    run(name, call);
+    expect(settled.what == what && settled.number == number && settled.outstanding.count == count);
+}
+
+/* seven commands, then eight; the first is the one that the response answers */
+static void commands(void) {
+    run("no_commands", no_commands);
+    expect(outstanding.count == 0);
+    sent.sender = 7, memcpy(&sent.entry, whole + 3, 8);
+    for (uint8_t i = 0; i < 7; i++) command_sent(), outstanding = settled.outstanding, sent.entry.cntr[4]++;
+    settles("command_sent, 7 entries", command_sent, 1, 0, 8);
+    outstanding = settled.outstanding;
+    settles("command_sent, refused 22, the last of 8 entries", command_sent, 0, 22, 8);
+    sent.entry.cntr[4]++;
+    settles("command_sent, refused 21, 8 entries", command_sent, 0, 21, 8);
+    whole[12] = 0;
+    settles("response_came, closing the first of 8", response_came, 1, 0, 7);
+    whole[12] = 0x0B;
+    settles("response_came, waiting, the first of 8", response_came, 2, 0, 8);
+    whole[10] += 8;
+    settles("response_came, refused 23, 8 entries", response_came, 0, 23, 8);
+}
+
+static void captures(void) {
+    memset(file, 0x33, FILE_OCTETS);
+    gives("salvage, 65,536 octets, garbage", salvage, 0);
+    gives("next_skipped, all runs of 65,536 octets, garbage", all_skipped, FILE_OCTETS);
+    for (size_t at = 0; at + CAPTURED <= FILE_OCTETS; at += CAPTURED) file[at] = 0xA5, file[at + 1] = 0x5A, file[at + 2] = 1, file[at + 3] = 140;
+    size_t most = FILE_OCTETS / CAPTURED * CAPTURED;
+    memcpy(file + most, "\xA5\x5A\x01\x0C", 4);
+    gives("salvage, 65,536 octets, records of 140 octets", salvage, FILE_OCTETS);
+    gives("next_skipped, all runs of 65,536 octets, records of 140 octets", all_skipped, 0);
+    gives("read_captured, 140 octets", read_captured, 4);
+    for (size_t at = 0; at < FILE_OCTETS; at++) file[at] = at & 1 ? 0x5A : 0xA5;
+    gives("salvage, 65,536 octets, A5 5A over and over", salvage, 0);
+}
+
 int main(int argc, char **argv) {
     stack = argc > 1 && !strcmp(argv[1], "stack");
     fill();
     run("an empty call", nothing);
     run("a call that hands the record back as it is", hand_back);
-    numbers(), messages(), pages(), records(), packets(), octets();
+    numbers(), messages(), pages(), records(), packets(), octets(), beats(), judgements(), commands(), captures();
     return 0;
 }

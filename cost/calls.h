@@ -3,9 +3,17 @@
 #include <stddef.h>
 #include <stdint.h>
 typedef struct { uint32_t sender; uint8_t width; uint16_t reference, serial, identifier; } Key;
-typedef struct { uint8_t rank; Key key; uint8_t total, lengths[16]; bool held[16]; } Slot;
+typedef struct { uint8_t rank, beats; Key key; uint8_t total, lengths[16]; bool held[16]; } Slot;
 typedef struct { uint8_t kind, count; Slot slots[5]; } Record;
 typedef struct { uint8_t what; bool displaced; size_t number; Record record; } Taken;
+typedef struct { uint8_t what, number; Record record; } Beaten;
+typedef struct { uint8_t tar[3], cntr[5]; } Entry;
+typedef struct { uint8_t count; Entry entries[16]; } Counters;
+typedef struct { uint8_t what, number; Counters counters; } Judged;
+typedef struct { uint32_t sender; Entry entry; } Sent;
+typedef struct { uint8_t count; Sent entries[8]; } Outstanding;
+typedef struct { uint8_t what, number; Outstanding outstanding; } Settled;
+typedef struct { size_t first, count, next; } Run;
 Record cost_fresh_record(uint8_t kind);
 Record cost_fresh_record_with(uint8_t kind, uint8_t n);
 Taken cost_hand_back(Record, uint32_t sender, const uint8_t *ud, size_t, uint8_t *cells, size_t, uint8_t *out, size_t);
@@ -42,3 +50,12 @@ size_t cost_first_octets(const uint8_t *src, size_t, size_t n);
 size_t cost_packet_in(size_t length, const uint8_t *out, size_t);
 size_t cost_written_in(size_t length, const uint8_t *buffer, size_t);
 size_t cost_part_in(size_t length, const uint8_t *buffer, size_t);
+Beaten cost_beat(Record, uint8_t limit);
+Counters cost_no_counters(void);
+Judged cost_judge_counter(Counters, const uint8_t *packet, size_t);
+Outstanding cost_no_commands(void);
+Settled cost_command_sent(Outstanding, Sent);
+Settled cost_response_came(Outstanding, uint32_t sender, const uint8_t *response, size_t);
+size_t cost_salvage(const uint8_t *file, size_t, uint8_t *output, size_t);
+Run cost_next_skipped(const uint8_t *file, size_t, size_t from);
+size_t cost_read_captured(const uint8_t *octets, size_t);
