@@ -156,6 +156,7 @@ pub salvaging-refused : SalvagingRefused
 unfolding salvaging
 salvaging-refused file output =
     written-left (refuse 24 when ltb mostCapture (length file) otherwise refuse 1 when not (eqb (length output) (length file)) otherwise outcome.gives (salvaged file)) output
+
 -- ---- USSD strings
 pub ussd-writing-refused : UssdWritingRefused
 unfolding ussd.writtenUssd

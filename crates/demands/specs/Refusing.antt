@@ -88,6 +88,7 @@ ReportRefused =
 
 abbrev pub SalvagingRefused : Type 0
 SalvagingRefused = (file output : List ℕ) (number : ℕ) → salvaging file output .0 ≡ outcome.refused number → salvaging file output .1 ≡ output
+
 -- ---- USSD strings: the lent buffer stays as it was, and of a string that is refused nothing is shown
 abbrev pub UssdWritingRefused : Type 0
 UssdWritingRefused =
