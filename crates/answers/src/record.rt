@@ -43,9 +43,9 @@ fn part(held: bool, place: usize, length: u8, text: &mut [u8], at: usize) -> usi
     number(length as u64, text, at)
 }
 
-// ` RANK SENDER WIDTH REFERENCE SERIAL IDENTIFIER TOTAL`.
+// ` RANK BEATS SENDER WIDTH REFERENCE SERIAL IDENTIFIER TOTAL`.
 fn head(x: Slot, text: &mut [u8], at: usize) -> usize {
-    let at = alone(rows::one(0, 6, x.rank as u64), text, at);
+    let at = alone(rows::two(0, 0x66, x.rank as u64, x.beats as u64), text, at);
     let key = rows::keyed(0, 0x622664, x.key, x.total, 0, 0);
     alone(key, text, at)
 }

@@ -81,17 +81,23 @@ pub const COUNTERS: u64 = 119905326675;
 
 const STATUS: u64 = 658559667;
 
+const BEAT: u64 = 70708;
+
 // ---- rows
-// A name alone, and with one value.
+// A name alone, with one value, and with two.
 pub fn plain(name: u64) -> Row {
     one(name, 0, 0)
 }
 
 pub fn one(name: u64, sort: u64, v: u64) -> Row {
+    two(name, sort, v, 0)
+}
+
+pub(crate) fn two(name: u64, sorts: u64, v: u64, w: u64) -> Row {
     Row {
         name: name,
-        sorts: sort,
-        values: [v, 0, 0, 0, 0, 0, 0, 0],
+        sorts: sorts,
+        values: [v, w, 0, 0, 0, 0, 0, 0],
     }
 }
 
@@ -222,11 +228,7 @@ pub fn written(name: u64, w: Written) -> Row {
 // `part TOTAL LENGTH OCTETS`.
 pub fn written_part(w: WrittenPart) -> Row {
     match w {
-        WrittenPart::Part { total, length } => Row {
-            name: PART,
-            sorts: 0xA6,
-            values: [total as u64, length as u64, 0, 0, 0, 0, 0, 0],
-        },
+        WrittenPart::Part { total, length } => two(PART, 0xA6, total as u64, length as u64),
         WrittenPart::Refused(why) => refusal(why),
     }
 }
@@ -262,11 +264,7 @@ pub fn judgement(j: types::Judgement) -> Row {
 
 // ` TAR CNTR`.
 pub(crate) fn entry(e: types::CounterEntry) -> Row {
-    Row {
-        name: 0,
-        sorts: 0x53,
-        values: [tar(e.tar), cntr(e.cntr), 0, 0, 0, 0, 0, 0],
-    }
+    two(0, 0x53, tar(e.tar), cntr(e.cntr))
 }
 
 // ---- series
@@ -318,11 +316,7 @@ fn mark(displaced: bool) -> u64 {
 // `kept SLOT no`, `kept SLOT displaced`, `held SLOT`, or the packet in the second buffer.
 pub fn answer(a: Answer) -> Row {
     match a {
-        Answer::Kept { slot, displaced } => Row {
-            name: KEPT,
-            sorts: 0x76,
-            values: [slot as u64, mark(displaced), 0, 0, 0, 0, 0, 0],
-        },
+        Answer::Kept { slot, displaced } => two(KEPT, 0x76, slot as u64, mark(displaced)),
         Answer::HeldAlready { slot } => one(HELD, 6, slot as u64),
         Answer::Packet { length } => one(PACKET, 9, length as u64),
         Answer::Refused(why) => refusal(why),
@@ -334,6 +328,14 @@ pub fn made(a: types::Making) -> Row {
     match a {
         types::Making::Fresh => plain(FRESH),
         types::Making::Refused(why) => refusal(why),
+    }
+}
+
+// `beat DROPPED`, or refused.
+pub fn beating(b: types::Beating) -> Row {
+    match b {
+        types::Beating::Dropped(n) => one(BEAT, 6, n as u64),
+        types::Beating::Refused(why) => refusal(why),
     }
 }
 

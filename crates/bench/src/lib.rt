@@ -7,6 +7,7 @@ mod slots;
 use changes::Bench;
 pub use changes::start;
 use words::line::Line;
+use words::line::VALUES;
 use words::table;
 ghost use mathlib.Core.Path.{_≡_};
 ghost use mathlib.Core.Bool.{true, false};
@@ -43,7 +44,7 @@ pub(crate) fn unanswered(b: Bench, at: usize) -> Heard
 }
 
 // The first number of a line.
-pub(crate) fn first(values: [u64; 8]) -> usize
+pub(crate) fn first(values: [u64; VALUES]) -> usize
     ensures { λ r. ⌜ r ≡ getD values 0 0 ⌝ }
 {
     values[0] as usize

@@ -1,4 +1,4 @@
-// `slot I RANK SENDER WIDTH REFERENCE SERIAL IDENTIFIER TOTAL PART..` puts a slot into the record as it is written, so that records which the
+// `slot I RANK BEATS SENDER WIDTH REFERENCE SERIAL IDENTIFIER TOTAL PART..` puts a slot into the record as it is written, so that records which the
 // library could not have made can be tried. What the slot holds is held to stored lines.
 use crate::Heard;
 use answers::record;
@@ -10,6 +10,7 @@ use types::Key;
 use types::Record;
 use types::Slot;
 use words::line::Line;
+use words::line::VALUES;
 ghost use mathlib.Core.Path.{_≡_};
 ghost use mathlib.Core.Bool.{true};
 ghost use Prim.Native.Nat.{_<_};
@@ -20,23 +21,24 @@ ghost use Rattle.changes.specs.Kept.{withRecord};
 ghost use Rattle.bench.specs.Lines.{SlotPut};
 
 // SENDER, SERIAL and IDENTIFIER are the first eight octets of the line.
-fn key_of(values: [u64; 8], fields: &[u8]) -> Key {
+fn key_of(values: [u64; VALUES], fields: &[u8]) -> Key {
     Key {
         sender: sender_of(fields),
-        width: (values[3] % 256) as u8,
-        reference: (values[4] % 65536) as u16,
+        width: (values[4] % 256) as u8,
+        reference: (values[5] % 65536) as u16,
         serial: types::SerialNumber(pair_at(fields, 4)),
         identifier: types::MessageIdentifier(pair_at(fields, 6)),
     }
 }
 
-fn slot_of(values: [u64; 8], fields: &[u8], p: words::line::Parts) -> Slot {
+fn slot_of(values: [u64; VALUES], fields: &[u8], p: words::line::Parts) -> Slot {
     let lengths = p.lengths;
     let held = p.held;
     Slot {
         rank: (values[1] % 256) as u8,
+        beats: (values[2] % 256) as u8,
         key: key_of(values, fields),
-        total: (values[7] % 256) as u8,
+        total: (values[8] % 256) as u8,
         lengths: lengths,
         held: held,
     }

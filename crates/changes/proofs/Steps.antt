@@ -17,10 +17,11 @@ use Rattle.types.specs.declared.Counters.{Counters}
 use Rattle.types.specs.declared.CounterEntry.{CounterEntry}
 use Rattle.types.specs.declared.JudgedCounter.{JudgedCounter}
 use Rattle.types.specs.declared.Refusal.{Refusal}
+use Rattle.types.specs.declared.Beating.{Beating}
 use Rattle.types.specs.declared.Making.{Making}
 use Rattle.types.specs.declared.Making.the-variants.{Fresh, Refused}
 use Rattle.types.specs.Refusals.{refused, gives}
-use Rattle.skelmarix.specs.Rules.{defaultSlots, isSlotNumber, cellsSize, Beside, beside, toldMaking, making, freshRecord, Answer, state, after, takeMessage, takePage, noCounters, Assessed, assessed, toldJudgement, judgeCounter}
+use Rattle.skelmarix.specs.Rules.{defaultSlots, isSlotNumber, cellsSize, Beside, beside, toldMaking, making, freshRecord, Answer, state, after, takeMessage, takePage, beaten, toldBeating, beat, noCounters, Assessed, assessed, toldJudgement, judgeCounter}
 use Rattle.lines.specs.Lent.{lentOf, kindBy, senderOf, tarOf, cntrOf}
 use Rattle.changes.specs.declared.Bench.{Bench}
 use Rattle.changes.specs.Kept as rule
@@ -98,6 +99,11 @@ pub counted : (b c : Bench) (n : ℕ) (r : Record) → c ≡ rule.withRecord b r
     → c ≡ rule.withRecord b (rule.withCount (b .«record») (n % 256))
 counted b c n r e f = rw (e, f)
 
+-- ---- the beat
+pub beat-told : (b x : Bench) (limit : ℕ) (a : Beating) (r : Record) → x ≡ rule.withRecord b r
+    → beaten (toldBeating a) r ≡ beat (b .«record» .count) (b .«record») limit → x ≡ rule.withRecord b (beat (b .«record» .count) (b .«record») limit .rec)
+beat-told b x limit a r e f = rw (← f) e
+
 -- ---- lending and numbering
 module _ (row n : ℕ) (b : Bench) where
   pub note-lends : (c : Bench) → (ltb 7 row && ltb row 11) ≡ true → c ≡ rule.withLent b (set (b .lent) (row - 8) n) → c ≡ rule.lentNoted row n b
@@ -160,8 +166,12 @@ module _ (row count n : ℕ) (octets : List ℕ) (b x : Bench) where
       → x ≡ rule.noted row count n octets b
   noted-counters e f = rw e f
 
-  pub noted-lent : (c : Bench) → (leb 53 row && leb row 55) ≡ false → c ≡ rule.lentNoted row n b → x ≡ c → x ≡ rule.noted row count n octets b
-  noted-lent c e f g = rw e (g ∙ f)
+  module _ (e : (leb 53 row && leb row 55) ≡ false) where
+    pub noted-beat : row ≡ 56 → x ≡ rule.withRecord b (beat (b .«record» .count) (b .«record») (n % 256) .rec) → x ≡ rule.noted row count n octets b
+    noted-beat f g = rw (e, eq-eqb row 56 f) g
+
+    pub noted-lent : (c : Bench) → (row ≡ 56 → ⊥) → c ≡ rule.lentNoted row n b → x ≡ c → x ≡ rule.noted row count n octets b
+    noted-lent c z f g = rw (e, ne-eqb row 56 z) (g ∙ f)
 
 -- ---- by the row
 module _ (row count n : ℕ) (octets : List ℕ) (b c : Bench) (cells output cells′ output′ : List ℕ) where
@@ -214,7 +224,9 @@ pub ruleset steps = (
   in-use-other,
   counters-told,
   noted-counters,
+  noted-beat,
   noted-lent,
+  beat-told,
   changed-takes,
   changed-fresh,
   changed-fills,

@@ -10,7 +10,7 @@ use Rattle.types.specs.declared.Kind.the-variants.{Command}
 use Rattle.types.specs.declared.Record.{Record}
 use Rattle.types.specs.declared.CounterEntry.{CounterEntry}
 use Rattle.types.specs.declared.Counters.{Counters}
-use Rattle.skelmarix.specs.Rules.{mostOctets, cellsSize, defaultSlots, isSlotNumber, freshRecord, State, After, state, takeMessage, takePage, noCounters, judgeCounter}
+use Rattle.skelmarix.specs.Rules.{mostOctets, cellsSize, defaultSlots, isSlotNumber, freshRecord, State, After, state, takeMessage, takePage, beat, noCounters, judgeCounter}
 use Rattle.lines.specs.Lent.{right, lentOf, kindBy, senderOf, tarOf, cntrOf}
 use Rattle.changes.specs.declared.Bench.{Bench}
 
@@ -105,10 +105,12 @@ countersAfter row count n octets c =
     (cond (eqb row 54) (cond (eqb count 0) c (withInUse c (n % 256)))
     (judgeCounter c octets .counters))
 
--- the lines that leave cells and output as they are
+-- the lines that leave cells and output as they are; row 56 `beat LIMIT`
 abbrev pub noted : ℕ → ℕ → ℕ → List ℕ → Bench → Bench
 noted row count n octets b =
-    cond (leb 53 row && leb row 55) (withCounters b (countersAfter row count n octets (b .counters))) (lentNoted row n b)
+    cond (leb 53 row && leb row 55) (withCounters b (countersAfter row count n octets (b .counters)))
+    (cond (eqb row 56) (withRecord b (beat (b .«record» .count) (b .«record») (n % 256) .rec))
+    (lentNoted row n b))
 
 -- and row 4 `fresh command N`, row 5 `fresh response N`, row 6 `fill HH`; the lines of other rows leave all as it is. n is the first number of the
 -- line, and count how many words there are behind the names.

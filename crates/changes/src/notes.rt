@@ -1,4 +1,4 @@
-// Lines that leave cells and output as they are: lending, numbering, the number of slots, and the table of counters.
+// Lines that leave cells and output as they are: lending, numbering, the number of slots, the beat, and the table of counters.
 use crate::Bench;
 use crate::Made;
 use crate::with_record;
@@ -7,6 +7,7 @@ use words::table;
 ghost use mathlib.Core.Path.{_≡_};
 ghost use Prim.Native.Nat.{_<_, _%_};
 ghost use lib.ListN.{set};
+ghost use Rattle.skelmarix.specs.Rules.{beat};
 ghost use Rattle.changes.specs.Kept as rule;
 ghost use Rattle.changes.specs.Kept.{lentNoted, withRecord, withCount, withLent, withCounters, countersAfter};
 
@@ -94,12 +95,29 @@ fn counted(row: usize, count: usize, n: usize, octets: &[u8], b: Bench) -> Made
     }
 }
 
+// ---- the beat
+// A beat on the record, with the line's number as the limit.
+fn beaten(n: usize, b: Bench) -> Made
+    ensures { λ r. ⌜ r .bench ≡ withRecord b (beat (b .«record» .count) (b .«record») (n % 256) .rec) ⌝ }
+{
+    let t = skelmarix::beat(b.record, (n % 256) as u8);
+    let answer = t.answer;
+    let after = t.record;
+    Made {
+        bench: with_record(b, after),
+        row: rows::beating(answer),
+    }
+}
+
 // ---- by the row
 pub(crate) fn noted(row: usize, count: usize, n: usize, octets: &[u8], b: Bench) -> Made
     ensures { λ r. ⌜ r .bench ≡ rule.noted row count n (now (octets .entry)) b ⌝ }
 {
     if (table::COUNTER <= row) & (row <= table::JUDGE) {
         return counted(row, count, n, octets, b);
+    }
+    if row == table::BEAT {
+        return beaten(n, b);
     }
     named(note(row, n, b), row, n)
 }

@@ -9,6 +9,7 @@ use answers::rows;
 use skelmarix::own_octets;
 use types::WrittenPart;
 use words::line::Line;
+use words::line::VALUES;
 use words::table;
 
 // ---- arrivals, and what a response announces
@@ -44,14 +45,14 @@ fn write_page(number: u32, fields: &[u8], out: &mut [u8]) -> WrittenPart {
     skelmarix::write_page(serial, identifier, octet(fields, 4), number, packet, out)
 }
 
-fn write_message(response: bool, v: [u64; 8], packet: &[u8], out: &mut [u8]) -> WrittenPart {
+fn write_message(response: bool, v: [u64; VALUES], packet: &[u8], out: &mut [u8]) -> WrittenPart {
     let width = narrow(v[0]);
     let reference = narrow(v[1]);
     let number = narrow(v[2]);
     skelmarix::write_message(kind_of(response), width, reference, number, packet, out)
 }
 
-fn part(row: usize, v: [u64; 8], fields: &[u8], out: &mut [u8]) -> WrittenPart {
+fn part(row: usize, v: [u64; VALUES], fields: &[u8], out: &mut [u8]) -> WrittenPart {
     if row == table::WRITE_PAGE {
         return write_page(narrow(v[3]), fields, out);
     }

@@ -1,5 +1,5 @@
 -- What the proofs of `words` cite: one law for each return and turn of a loop, over plain variables.
-use Prim.Native.Nat.{ℕ, zero, suc, _+_, _-_, _*_, _%_, _≤_, _<_}
+use Prim.Native.Nat.{ℕ, zero, suc, _+_, _-_, _*_, _/_, _%_, _≤_, _<_}
 use mathlib.Core.Path.{_≡_, refl, sym, ap, _∙_, subst}
 use mathlib.Core.Bool.{Bool, true, false, not, cond, _&&_, _||_}
 use mathlib.Core.List.{List, [], _∷_, _++_, append-assoc, append-nil}
@@ -8,7 +8,7 @@ use native.Mathlib.Nat.{add-zero}
 use native.Mathlib.Numerals.{add-one}
 use lib.ListN.{length, take, drop, getD, set, length-drop, length-set, length-append, drop-of-length-le}
 use lib.Seq.{drop-cons, take-suc-set, drop-set-lt, length-take-le}
-use lib.Dec.{eqb, leb, ltb}
+use lib.Dec.{eqb, leb}
 use borrow.Author.Needs.{needs}
 use borrow.Author.Tests.{le-leb, lt-leb, eq-eqb, ne-eqb, leb-true, not-true, not-false}
 use Rattle.octets.specs.Tests.{both, clash}
@@ -100,7 +100,7 @@ module _ (name : Bool) (n x : ℕ) where
 pub record Counting (name : Bool) (most : ℕ) (line : List ℕ) (from value at : ℕ) : Type 0 where
   pub is : valueFrom name most value (drop at line) ≡ valueFrom name most 0 (drop from line)
   pub text : behindDigits name (drop at line) ≡ behindDigits name (drop from line)
-  pub small : value ≤ 35184372088832
+  pub small : value ≤ 36028797018963968
   pub past : from ≤ at
   pub inside : at ≤ length line
 
@@ -109,7 +109,7 @@ module _ (name : Bool) (most : ℕ) (line : List ℕ) (from : ℕ) where
   count-none l = record { is = refl; text = refl; small = omega arith; past = omega arith; inside = l }
 
   module _ (value at : ℕ) (u : Counting name most line from value at) where
-    pub count-small : value ≤ 35184372088832
+    pub count-small : value ≤ 36028797018963968
     count-small = u .small
 
     pub count-all : length line ≤ at → Counted name most from line (record { value = value; at = at })
@@ -132,7 +132,7 @@ module _ (name : Bool) (most : ℕ) (line : List ℕ) (from : ℕ) where
           let t : behindDigits name (drop at line) ≡ drop at line = rw (drop-cons line at 0, ← is, not-true b e) in
           record { is = sym v ∙ u .is; text = sym t ∙ u .text; past = u .past; inside = u .inside }
 
-      pub count-more : (v : ℕ) → not b ≡ false → v ≡ shifted name most value (getD line at 0) → v ≤ 35184372088832
+      pub count-more : (v : ℕ) → not b ≡ false → v ≡ shifted name most value (getD line at 0) → v ≤ 36028797018963968
           → Counting name most line from v (at + 1)
       unfolding valueFrom behindDigits
       count-more v e f l =
@@ -316,7 +316,7 @@ module _ (key : ℕ) where
           }
 
 -- a number and what is added to it stay small
-most-small : (i : ℕ) → i < 8 → getD mosts i 0 ≤ 35184372088831
+most-small : (i : ℕ) → i < 8 → getD mosts i 0 ≤ 36028797018963967
 most-small zero l = omega arith
 most-small (suc zero) l = omega arith
 most-small (suc (suc zero)) l = omega arith
@@ -327,7 +327,7 @@ most-small (suc (suc (suc (suc (suc (suc zero)))))) l = omega arith
 most-small (suc (suc (suc (suc (suc (suc (suc zero))))))) l = omega arith
 most-small (suc (suc (suc (suc (suc (suc (suc (suc i)))))))) l = absurd (omega arith)
 
-pub most-below : (sort : ℕ) → mostOf sort ≤ 35184372088831
+pub most-below : (sort : ℕ) → mostOf sort ≤ 36028797018963967
 most-below sort = most-small (sort % 8) (omega arith)
 
 -- ---- one word
@@ -355,7 +355,7 @@ module _ (wanted at end : ℕ) (line after : List ℕ) (p : Pairs) (h : Paired (
   pub octets-inside : Apart (end + p .count) (p .at) line after
   octets-inside = record { apart = h .inside .0; within = h .inside .1; long = h .long }
 
-pub word-octets : (sort : ℕ) (o t : List ℕ) (w : WordRead) → 32 ≤ sort → w ≡ octetsRead (sort % 32) o t → w ≡ wordRead sort o t
+pub word-octets : (sort : ℕ) (o t : List ℕ) (w : WordRead) → 32 ≤ sort → w ≡ octetsRead (sort % 16) o t → w ≡ wordRead sort o t
 unfolding wordRead
 word-octets sort o t w l e = rw (le-leb 32 sort l) e
 
@@ -392,7 +392,7 @@ module _ (last : Bool) (sort : ℕ) where
 
   module _ (s r : Line) (line : List ℕ) (at : ℕ) (t : drop at line ≡ skipped (drop (s .at) line)) (is : last ≡ isEmpty (drop at line)) (k : sort ≡ s .sorts % 64) where
     pub step-closed : (last || eqb sort 0 || eqb sort 15) ≡ true
-        → ((l : List ℕ) → gathered r l ≡ rule.lineEnds (gathered s l) (eqb sort 15 || ((eqb sort 0 || (leb 16 sort && ltb sort 32)) && last)) (drop at l))
+        → ((l : List ℕ) → gathered r l ≡ rule.lineEnds (gathered s l) (eqb sort 15 || ((eqb sort 0 || eqb (sort / 16 % 2) 1) && last)) (drop at l))
         → gathered r line ≡ rule.stepOn (gathered s line)
     unfolding rule.stepOn
     step-closed e h = h line ∙ rw (← k, ← t, ← is, e)

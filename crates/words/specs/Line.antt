@@ -38,10 +38,10 @@ octetsRead wanted before t =
     }
 
 unfoldable pub wordRead : ℕ → List ℕ → List ℕ → WordRead
-wordRead sort before t = cond (leb any sort) (octetsRead (sort % 32) before t) (numberRead sort before t)
+wordRead sort before t = cond (leb any sort) (octetsRead (sort % 16) before t) (numberRead sort before t)
 
 -- ---- a line
--- what was read so far: whether the line is understood, whether there are words to come, the row, the sorts to come, the values of up to eight
+-- what was read so far: whether the line is understood, whether there are words to come, the row, the sorts to come, the values of up to nine
 -- words behind the names, how many there were, the octets, and the text to come
 pub record Gathered : Type 0 where
   pub understood : Bool
@@ -54,7 +54,7 @@ pub record Gathered : Type 0 where
   pub text : List ℕ
 
 abbrev pub noValues : List ℕ
-noValues = 0 ∷ 0 ∷ 0 ∷ 0 ∷ 0 ∷ 0 ∷ 0 ∷ 0 ∷ []
+noValues = 0 ∷ 0 ∷ 0 ∷ 0 ∷ 0 ∷ 0 ∷ 0 ∷ 0 ∷ 0 ∷ []
 
 -- at its start
 abbrev pub begun : List ℕ → Gathered
@@ -86,8 +86,8 @@ valued s w =
       more = w .good;
       row = s .row;
       sorts = s .sorts / 64;
-      values = set (s .values) (s .count % 8) (w .value);
-      count = s .count % 8 + 1;
+      values = set (s .values) (s .count % 9) (w .value);
+      count = s .count % 9 + 1;
       octets = w .octets;
       text = w .text;
     }

@@ -1,16 +1,16 @@
 -- The kinds of lines, as a table: a row is a name behind the names of an earlier row, and the sorts of the words that follow. A new kind of
 -- line is a new row.
-use Prim.Native.Nat.{ℕ, _+_, _*_, _%_}
+use Prim.Native.Nat.{ℕ, _+_, _*_, _/_, _%_}
 use Prim.Native.String.{String}
-use mathlib.Core.Bool.{Bool, cond, _&&_}
+use mathlib.Core.Bool.{Bool, cond}
 use mathlib.Core.List.{List, [], _∷_, map}
-use lib.Dec.{eqb, leb, ltb}
+use lib.Dec.{eqb}
 use lib.ListN.{drop, getD}
 use Rattle.words.specs.Letters.{letters}
 
 -- ---- sorts of words
--- a name; a number up to 4,294,967,295, 65,535, 16,384, 255, 4 or 15; parts of a slot; one of these numbers that may be left out at a line's end;
--- octets, any number of them or so many
+-- a name; a number up to 4,294,967,295, 65,535, 16,384, 255, 4 or 15; parts of a slot; octets, any number of them or so many; and a number or octets
+-- that may be left out at a line's end
 abbrev pub name : ℕ
 name = 1
 
@@ -35,21 +35,21 @@ entry = 7
 abbrev pub slotParts : ℕ
 slotParts = 15
 
-abbrev pub orNone : ℕ → ℕ
-orNone sort = 16 + sort
-
-abbrev pub mayLack : ℕ → Bool
-mayLack sort = leb 16 sort && ltb sort 32
-
 abbrev pub any : ℕ
 any = 32
 
 abbrev pub octets : ℕ → ℕ
 octets n = 32 + n
 
--- the greatest number of each sort; no name has more than nine letters
+abbrev pub orNone : ℕ → ℕ
+orNone sort = 16 + sort
+
+abbrev pub mayLack : ℕ → Bool
+mayLack sort = eqb (sort / 16 % 2) 1
+
+-- the greatest number of each sort; no name has more than eleven letters
 abbrev pub mosts : List ℕ
-mosts = 0 ∷ 35184372088831 ∷ 4294967295 ∷ 65535 ∷ 16384 ∷ 255 ∷ 4 ∷ 15 ∷ []
+mosts = 0 ∷ 36028797018963967 ∷ 4294967295 ∷ 65535 ∷ 16384 ∷ 255 ∷ 4 ∷ 15 ∷ []
 
 abbrev pub mostOf : ℕ → ℕ
 mostOf sort = getD mosts (sort % 8) 0
@@ -88,7 +88,7 @@ rows =
     row 7 "buffer" upToLent ∷
     row 7 "right" end ∷
     row 0 "number" end ∷
-    row 0 "slot" (place then octet then octets 4 then octet then pair then octets 2 then octets 2 then octet then slotParts) ∷
+    row 0 "slot" (place then octet then octet then octets 4 then octet then pair then octets 2 then octets 2 then octet then slotParts) ∷
     row 0 "record" end ∷
     row 0 "formed" end ∷
     row 0 "cells" (number then number) ∷
@@ -131,15 +131,16 @@ rows =
     row 0 "counter" (entry then octets 3 then octets 5) ∷
     row 0 "counters" (orNone octet) ∷
     row 0 "judge" any ∷
+    row 0 "beat" octet ∷
     []
 
 -- how many there are
 abbrev pub rowCount : ℕ
-rowCount = 56
+rowCount = 57
 
 -- the key of a name behind an earlier row
 abbrev pub nameAfter : ℕ → ℕ → ℕ
-nameAfter earlier n = earlier % 256 * 35184372088832 + n % 35184372088832
+nameAfter earlier n = earlier % 256 * 36028797018963968 + n % 36028797018963968
 
 abbrev pub keys : List ℕ
 keys = map (λ r. nameAfter (r .earlier) (letters 0 (r .named))) rows

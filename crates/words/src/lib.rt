@@ -78,7 +78,7 @@ fn is_digit(name: bool, x: u8) -> bool
 
 // A number with one digit more.
 fn with_digit(name: bool, n: u64, x: u8) -> u64
-    requires { ⌜ n ≤ 35184372088832 ⌝ }
+    requires { ⌜ n ≤ 36028797018963968 ⌝ }
     ensures { λ r. ⌜ r ≡ withDigit name n x ⌝ }
 {
     if name {
@@ -89,8 +89,8 @@ fn with_digit(name: bool, n: u64, x: u8) -> u64
 
 // The same, but every number above `most` counts as one more than that.
 fn shifted(name: bool, most: u64, n: u64, x: u8) -> u64
-    requires { ⌜ (most ≤ 35184372088831) × (n ≤ 35184372088832) ⌝ }
-    ensures { λ r. ⌜ (r ≡ rule.shifted name most n x) × (r ≤ 35184372088832) ⌝ }
+    requires { ⌜ (most ≤ 36028797018963967) × (n ≤ 36028797018963968) ⌝ }
+    ensures { λ r. ⌜ (r ≡ rule.shifted name most n x) × (r ≤ 36028797018963968) ⌝ }
 {
     let v = with_digit(name, n, x);
     if v <= most { v } else { most + 1 }
@@ -98,7 +98,7 @@ fn shifted(name: bool, most: u64, n: u64, x: u8) -> u64
 
 // The name, or the number, at a place.
 pub(crate) fn number_at(line: &[u8], from: usize, name: bool, most: u64) -> Number
-    requires { ⌜ (from ≤ length (now line)) × (most ≤ 35184372088831) ⌝ }
+    requires { ⌜ (from ≤ length (now line)) × (most ≤ 36028797018963967) ⌝ }
     ensures { λ r. ⌜ Counted name most from (now (line .entry)) r ⌝ }
 {
     let mut value: u64 = 0;

@@ -24,13 +24,16 @@ pub(crate) struct Word {
     pub(crate) end: usize,
 }
 
+// The most words that a line has behind its names and before the parts of a slot.
+pub const VALUES: usize = 9;
+
 // What was read of a line. The values are those of the words behind the names: a number, or for octets how many the line has up to their end.
 pub struct Line {
     pub understood: bool,
     pub more: bool,
     pub row: usize,
     pub sorts: u64,
-    pub values: [u64; 8],
+    pub values: [u64; VALUES],
     pub count: usize,
     pub at: usize,
     pub end: usize,
@@ -77,7 +80,7 @@ fn word_read(sort: u8, line: &mut [u8], at: usize, end: usize) -> Word
     ensures { λ r. ⌜ Apart (r .end) (r .at) (now (line .entry)) (now (line .exit)) ⌝ }
 {
     if 32 <= sort {
-        return octets_read((sort % 32) as usize, line, at, end);
+        return octets_read((sort % 16) as usize, line, at, end);
     }
     number_read(sort, line, at, end)
 }
@@ -91,7 +94,7 @@ fn start() -> Line
         more: true,
         row: 0,
         sorts: 1,
-        values: [0; 8],
+        values: [0; VALUES],
         count: 0,
         at: 0,
         end: 0,
@@ -113,7 +116,7 @@ fn closed(s: Line, good: bool, at: usize) -> Line
 fn named(s: Line, w: Word) -> Line
     ensures { λ r. ⌜ ((l k : List ℕ) → gathered r l ≡ rule.named (gathered s k) (wordOf w l) (rowOf (nameAfter (s .row) (w .value)))) × (r .at ≡ w .at) × (r .end ≡ w .end) ⌝ }
 {
-    let row = find((s.row % 256) as u64 * 35184372088832 + w.value % 35184372088832);
+    let row = find((s.row % 256) as u64 * 36028797018963968 + w.value % 36028797018963968);
     let mut t = s;
     t.understood = false;
     t.more = w.good & !(row == 0);
@@ -129,7 +132,7 @@ fn valued(s: Line, w: Word) -> Line
     ensures { λ r. ⌜ ((l k : List ℕ) → gathered r l ≡ rule.valued (gathered s k) (wordOf w l)) × (r .at ≡ w .at) × (r .end ≡ w .end) ⌝ }
 {
     let mut t = s;
-    let i = s.count % 8;
+    let i = s.count % VALUES;
     t.understood = false;
     t.more = w.good;
     t.sorts = s.sorts / 64;
@@ -160,7 +163,7 @@ fn step(s: Line, line: &mut [u8]) -> Line
     let at = skip(line, s.at);
     let last = is_last(line, at);
     if last | (sort == 0) | (sort == 15) {
-        let lacks = (16 <= sort) & (sort < 32);
+        let lacks = sort / 16 % 2 == 1;
         return closed(s, (sort == 15) | (((sort == 0) | lacks) & last), at);
     }
     let w = word_read(sort, line, at, s.end);
