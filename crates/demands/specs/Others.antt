@@ -57,7 +57,7 @@ callsWith k K (beats limit ∷ es) = callsWith k K es
 
 -- ---- what a call with the key lets its sender and receiver see
 -- What record and cells hold of a series: its slot, its total, and of each number 1 to 16, if the part is held, the octets that its cell holds of
--- it. How recent the series is does not belong to this: others change it.
+-- it. Its rank does not belong to this, for others change it, nor its count of beats.
 pub record Holding : Type 0 where
   pub slot : ℕ
   pub total : ℕ
