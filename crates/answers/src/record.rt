@@ -1,8 +1,9 @@
-// What a record and a table hold, as `record`, `slot` and `counters` print it.
+// What a record and the tables hold, as `record`, `slot`, `counters` and `outstanding` print it.
 use crate::number;
 use crate::rows;
 use crate::say;
 use types::COUNTER_ENTRIES;
+use types::OUTSTANDING_ENTRIES;
 use types::PARTS;
 use types::SLOTS;
 use types::Slot;
@@ -88,6 +89,21 @@ pub fn counters(c: types::Counters, text: &mut [u8], at: usize) -> usize {
     while i < n {
         at = say(b";", text, at);
         at = alone(rows::entry(entries[i]), text, at);
+        i += 1;
+    }
+    at
+}
+
+// ---- outstanding commands
+// `outstanding N`, and `; SENDER TAR CNTR` for each entry that is in use.
+pub fn outstanding(t: types::Outstanding, text: &mut [u8], at: usize) -> usize {
+    let mut at = alone(rows::one(rows::OUTSTANDING, 6, t.count as u64), text, at);
+    let entries = t.entries;
+    let n = printed(t.count, OUTSTANDING_ENTRIES);
+    let mut i = 0;
+    while i < n {
+        at = say(b";", text, at);
+        at = alone(rows::command_sent(entries[i]), text, at);
         i += 1;
     }
     at

@@ -83,6 +83,14 @@ const STATUS: u64 = 658559667;
 
 const BEAT: u64 = 70708;
 
+const SENT: u64 = 628180;
+
+const CLOSED: u64 = 113757348;
+
+const WAITING: u64 = 24739718599;
+
+pub const OUTSTANDING: u64 = 17650035007301063;
+
 // ---- rows
 // A name alone, with one value, and with two.
 pub fn plain(name: u64) -> Row {
@@ -265,6 +273,33 @@ pub fn judgement(j: types::Judgement) -> Row {
 // ` TAR CNTR`.
 pub(crate) fn entry(e: types::CounterEntry) -> Row {
     two(0, 0x53, tar(e.tar), cntr(e.cntr))
+}
+
+// ---- outstanding commands
+// `sent`, or refused.
+pub fn sending(s: types::Sending) -> Row {
+    match s {
+        types::Sending::Sent => plain(SENT),
+        types::Sending::Refused(why) => refusal(why),
+    }
+}
+
+// `closed`, `waiting`, or refused.
+pub fn closing(c: types::Closing) -> Row {
+    match c {
+        types::Closing::Closed => plain(CLOSED),
+        types::Closing::Waiting => plain(WAITING),
+        types::Closing::Refused(why) => refusal(why),
+    }
+}
+
+// ` SENDER TAR CNTR`.
+pub(crate) fn command_sent(c: types::SentCommand) -> Row {
+    Row {
+        name: 0,
+        sorts: 0x534,
+        values: [c.sender as u64, tar(c.tar), cntr(c.cntr), 0, 0, 0, 0, 0],
+    }
 }
 
 // ---- series

@@ -8,10 +8,34 @@ use lib.Dec.{eqb}
 use lib.ListN.{getD, set}
 use Rattle.types.specs.declared.Slot.{Slot}
 use Rattle.skelmarix.specs.Rules.{withSlots}
-use Rattle.words.specs.Line.{Gathered, lineRead, silent}
+use Rattle.words.specs.declared.line.Line.{Line}
+use Rattle.words.specs.Line.{Gathered, lineRead, gathered, Apart, silent}
 use Rattle.changes.specs.declared.Bench.{Bench}
-use Rattle.changes.specs.Kept.{Held, held, withRecord, rowChanges}
+use Rattle.changes.specs.Kept.{Held, held, withRecord, meant, rowChanges}
 use Rattle.bench.specs.declared.Heard.{Heard}
+
+-- ---- what a line says
+-- it is understood if it was read, and if its words can be meant
+abbrev pub meantBy : Gathered → Gathered
+meantBy s =
+    record {
+      understood = s .understood && meant (s .row) (s .count) (getD (s .values) 0 0) (s .octets);
+      more = s .more;
+      row = s .row;
+      sorts = s .sorts;
+      values = s .values;
+      count = s .count;
+      octets = s .octets;
+      text = s .text;
+    }
+
+abbrev pub lineSays : List ℕ → Gathered
+lineSays line = meantBy (lineRead line)
+
+-- what reading it leaves
+pub record Says (r : Line) (before after : List ℕ) : Type 0 where
+  pub is : gathered r after ≡ lineSays before
+  pub inside : Apart (r .end) (r .at) before after
 
 -- ---- all lines
 -- row 13 `slot ..`: its parts are read besides, and may be wrong
@@ -30,10 +54,10 @@ pub record SlotPut (s : Gathered) (b : Bench) (r : Heard) : Type 0 where
 -- what a line leaves that asks nothing, puts a slot, or is another
 pub data LineLeaves (line : List ℕ) (b : Bench) (cells output : List ℕ) (r : Heard) (cells′ output′ : List ℕ) : Type 0 where
   nothing : silent line ≡ true → r .understood ≡ true → held (r .bench) cells′ output′ ≡ held b cells output → LineLeaves line b cells output r cells′ output′
-  slot : silent line ≡ false → putsSlot (lineRead line) ≡ true → SlotPut (lineRead line) b r → cells′ ≡ cells → output′ ≡ output
+  slot : silent line ≡ false → putsSlot (lineSays line) ≡ true → SlotPut (lineSays line) b r → cells′ ≡ cells → output′ ≡ output
       → LineLeaves line b cells output r cells′ output′
-  elsewhere : silent line ≡ false → putsSlot (lineRead line) ≡ false → r .understood ≡ lineRead line .understood
-      → held (r .bench) cells′ output′ ≡ heldAfter (lineRead line) (held b cells output) → LineLeaves line b cells output r cells′ output′
+  elsewhere : silent line ≡ false → putsSlot (lineSays line) ≡ false → r .understood ≡ lineSays line .understood
+      → held (r .bench) cells′ output′ ≡ heldAfter (lineSays line) (held b cells output) → LineLeaves line b cells output r cells′ output′
 
 -- a line that is not understood leaves the buffer as it was
 pub record Untouched (understood : Bool) (before after : List ℕ) : Type 0 where

@@ -1,5 +1,5 @@
 // The bench: a line of text is a call of the library, and its answer is a line of text again. From line to line a record, the cells, the output
-// and the buffer are kept, a table of counters, and how much of each buffer is lent.
+// and the buffer are kept, the tables of counters and of outstanding commands, and how much of each buffer is lent.
 mod asks;
 mod shows;
 mod slots;
@@ -13,7 +13,7 @@ ghost use mathlib.Core.Path.{_≡_};
 ghost use mathlib.Core.Bool.{true, false};
 ghost use lib.ListN.{getD, take};
 ghost use Rattle.changes.specs.Kept.{held, rowChanges};
-ghost use Rattle.bench.specs.Lines.{LineLeaves, Untouched};
+ghost use Rattle.bench.specs.Lines.{LineLeaves, Says, Untouched};
 
 // The result of a line: what is kept afterwards, and where the text ends with its answer.
 pub struct Heard {
@@ -70,6 +70,17 @@ fn done(
     answered(made.bench, end)
 }
 
+// Reads a line; it is understood only if its words can be meant.
+fn read(line: &mut [u8]) -> Line
+    ensures { λ r. ⌜ Says r (now (line .entry)) (now (line .exit)) ⌝ }
+{
+    let mut l = words::line::read(line);
+    let octets = skelmarix::first_octets(line, l.end);
+    let values = l.values;
+    l.understood = l.understood & changes::is_meant(l.row, l.count, first(values), octets);
+    l
+}
+
 // Answers a line behind the text up to `at`. The line's octets are read to its own start.
 pub fn answer(
     line: &mut [u8],
@@ -86,7 +97,7 @@ pub fn answer(
     if words::line::is_silent(line) {
         return answered(b, at);
     }
-    let l = words::line::read(line);
+    let l = read(line);
     if !l.understood {
         return unanswered(b, at);
     }

@@ -1,4 +1,4 @@
-// Questions on what is kept: the record, the table of counters, and what is in a buffer.
+// Questions on what is kept: the record, the tables, and what is in a buffer.
 use answers::Row;
 use answers::record;
 use answers::rows;
@@ -49,11 +49,12 @@ fn formed(r: types::Record) -> Row {
     rows::plain(rows::NO)
 }
 
-// Whether the answer to a line is what is kept: the record, or the table.
+// Whether the answer to a line is what is kept: the record, or a table.
 pub(crate) fn is_shown(row: usize) -> bool {
     ((table::SLOT < row) & (row < table::CELLS))
         | (row == table::COUNTER)
         | (row == table::COUNTERS)
+        | (row == table::OUTSTANDING)
 }
 
 // Prints that answer.
@@ -63,6 +64,9 @@ pub(crate) fn kept(row: usize, b: Bench, text: &mut [u8], at: usize) -> usize {
     }
     if row < table::CELLS {
         return record::alone(formed(b.record), text, at);
+    }
+    if row == table::OUTSTANDING {
+        return record::outstanding(b.outstanding, text, at);
     }
     record::counters(b.counters, text, at)
 }

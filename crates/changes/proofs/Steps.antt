@@ -1,7 +1,7 @@
 -- What the proofs of `changes` cite: one law for each return, over plain variables.
 use Prim.Native.Nat.{ℕ, _-_, _%_, _≤_, _<_}
 use mathlib.Core.Path.{_≡_, refl, ap, _∙_}
-use mathlib.Core.Bool.{Bool, true, false, cond, _&&_}
+use mathlib.Core.Bool.{Bool, true, false, not, cond, _&&_}
 use mathlib.Core.List.{List, _++_}
 use native.Mathlib.Omega.{arith}
 use lib.ListN.{length, take, drop, getD, set, replicate}
@@ -16,43 +16,80 @@ use Rattle.types.specs.declared.Cntr.{Cntr}
 use Rattle.types.specs.declared.Counters.{Counters}
 use Rattle.types.specs.declared.CounterEntry.{CounterEntry}
 use Rattle.types.specs.declared.JudgedCounter.{JudgedCounter}
+use Rattle.types.specs.declared.SentCommand.{SentCommand}
+use Rattle.types.specs.declared.Outstanding.{Outstanding}
+use Rattle.types.specs.declared.Sending.{Sending}
+use Rattle.types.specs.declared.Closing.{Closing}
+use Rattle.types.specs.declared.Captured.{Captured}
+use Rattle.types.specs.declared.Captured.the-variants.{UserData, Page, Unsound}
 use Rattle.types.specs.declared.Refusal.{Refusal}
 use Rattle.types.specs.declared.Beating.{Beating}
 use Rattle.types.specs.declared.Making.{Making}
 use Rattle.types.specs.declared.Making.the-variants.{Fresh, Refused}
 use Rattle.types.specs.Refusals.{refused, gives}
-use Rattle.skelmarix.specs.Rules.{defaultSlots, isSlotNumber, cellsSize, Beside, beside, toldMaking, making, freshRecord, Answer, state, after, takeMessage, takePage, beaten, toldBeating, beat, noCounters, Assessed, assessed, toldJudgement, judgeCounter}
+use Rattle.skelmarix.specs.Rules.{defaultSlots, isSlotNumber, cellsSize, Beside, beside, toldMaking, making, freshRecord, Answer, state, after, takeMessage, takePage, beaten, toldBeating, beat, noCounters, Assessed, assessed, toldJudgement, judgeCounter, sentCommand, noCommands, Fate, Settled, settled, toldSending, toldClosing, commandSent, responseCame, recordIn}
 use Rattle.lines.specs.Lent.{lentOf, kindBy, senderOf, tarOf, cntrOf}
 use Rattle.changes.specs.declared.Bench.{Bench}
 use Rattle.changes.specs.Kept as rule
 use Rattle.changes.specs.Kept.{held, rowChanges}
 
-pub start-told : (r : Record) (c : Counters) → r ≡ freshRecord defaultSlots Command → c ≡ noCounters
-    → record { «record» = r; counters = c; lent = rule.allRight; numbered = false } ≡ rule.atStart
-start-told r c e f = rw (e, f)
+pub start-told : (r : Record) (c : Counters) (t : Outstanding) → r ≡ freshRecord defaultSlots Command → c ≡ noCounters → t ≡ noCommands
+    → record { «record» = r; counters = c; outstanding = t; lent = rule.allRight; numbered = false } ≡ rule.atStart
+start-told r c t e f g = rw (e, f, g)
 
 clash : (b : Bool) → b ≡ true → b ≡ false → ⊥
 clash b p q = let z : _≡_ {A = ℕ} 0 1 = cc in omega arith
 
 -- ---- taking
-module _ (row : ℕ) (octets : List ℕ) (r q : Record) (a : Answer) (cells output cells′ output′ : List ℕ) where
-  pub call-message : (sender : ℕ) (ud : List ℕ) → row ≡ 1 → sender ≡ senderOf octets → ud ≡ drop 4 octets
-      → after a q cells′ output′ ≡ takeMessage (r .count) (state r cells output) sender ud
-      → after a q cells′ output′ ≡ rule.call row octets (state r cells output)
-  call-message sender ud e f g h = rw (eq-eqb row 1 e) (h ∙ rw (f, g))
+module _ (way at : ℕ) (octets own : List ℕ) (r q : Record) (a : Answer) (cells output cells′ output′ : List ℕ) (g : own ≡ drop at octets) where
+  pub call-message : (sender : ℕ) → way ≡ 1 → sender ≡ senderOf octets
+      → after a q cells′ output′ ≡ takeMessage (r .count) (state r cells output) sender own
+      → after a q cells′ output′ ≡ rule.call way at octets (state r cells output)
+  call-message sender e f h = rw (eq-eqb way 1 e) (h ∙ rw (f, g))
 
-  pub call-page : (row ≡ 1 → ⊥) → after a q cells′ output′ ≡ takePage (r .count) (state r cells output) octets
-      → after a q cells′ output′ ≡ rule.call row octets (state r cells output)
-  call-page f h = rw (ne-eqb row 1 f) h
+  pub call-page : (way ≡ 1 → ⊥) → after a q cells′ output′ ≡ takePage (r .count) (state r cells output) own
+      → after a q cells′ output′ ≡ rule.call way at octets (state r cells output)
+  call-page f h = rw (ne-eqb way 1 f) (h ∙ rw g)
+
+-- what a captured record is
+pub way-row : (row : ℕ) (octets : List ℕ) → (row ≡ 60 → ⊥) → row ≡ rule.wayOf row octets
+way-row row octets z = rw (ne-eqb row 60 z)
+
+module _ (row : ℕ) (octets own : List ℕ) where
+  module _ (x : Captured) (e : row ≡ 60) (f : own ≡ drop 4 octets) (g : x ≡ recordIn own) where
+    way-captured : rule.capturedWay row x ≡ rule.wayOf row octets
+    way-captured = rw (eq-eqb row 60 e, ← f, ← g)
+
+    pub way-message : (start : ℕ) → x ≡ UserData start → 1 ≡ rule.wayOf row octets
+    way-message start h = rw h at way-captured
+
+    pub way-page : (start : ℕ) → x ≡ Page start → 2 ≡ rule.wayOf row octets
+    way-page start h = rw h at way-captured
+
+    pub way-unsound : x ≡ Unsound → row ≡ rule.wayOf row octets
+    way-unsound h = rw h at way-captured
+
+pub own-captured : (row : ℕ) → row ≡ 60 → 8 ≡ rule.ownAt row
+own-captured row e = rw (eq-eqb row 60 e)
+
+pub own-message : (row : ℕ) → (row ≡ 60 → ⊥) → row ≡ 1 → 4 ≡ rule.ownAt row
+own-message row z e = rw (ne-eqb row 60 z, eq-eqb row 1 e)
+
+pub own-page : (row : ℕ) → (row ≡ 60 → ⊥) → (row ≡ 1 → ⊥) → 0 ≡ rule.ownAt row
+own-page row z y = rw (ne-eqb row 60 z, ne-eqb row 1 y)
+
+pub meant-told : (row count n way : ℕ) (octets : List ℕ) → way ≡ rule.wayOf row octets
+    → (not (eqb row 59 && ltb 1 count && ltb 7 n) && not (eqb way 60)) ≡ rule.meant row count n octets
+meant-told row count n way octets e = rw e
 
 -- what a call left of the octets lent, before the rest, is what the line leaves
-pub taken-told : (b b′ : Bench) (row : ℕ) (octets cells output x y : List ℕ) (s n m : ℕ) (a : Answer) (r : Record)
+pub taken-told : (b b′ : Bench) (way at : ℕ) (octets cells output x y : List ℕ) (s n m : ℕ) (a : Answer) (r : Record)
     → s ≡ cellsSize (b .«record» .count) → n ≡ lentOf (getD (b .lent) 0 0) s (length cells) → m ≡ lentOf (getD (b .lent) 1 0) 2142 (length output)
     → b′ ≡ rule.withRecord b r
-    → after a r x y ≡ rule.call row octets (state (b .«record») (take (n - 0) cells) (take (m - 0) output))
+    → after a r x y ≡ rule.call way at octets (state (b .«record») (take (n - 0) cells) (take (m - 0) output))
     → held b′ (x ++ drop (n - 0) cells) (y ++ drop (m - 0) output)
-    ≡ rule.heldTaken (held b cells output) (rule.call row octets (rule.called (held b cells output)))
-taken-told b b′ row octets cells output x y s n m a r size c o w is =
+    ≡ rule.heldTaken (held b cells output) (rule.call way at octets (rule.called (held b cells output)))
+taken-told b b′ way at octets cells output x y s n m a r size c o w is =
     let all-n : n - 0 ≡ n = omega arith in
     let all-m : m - 0 ≡ m = omega arith in
     rw (w, ← size, ← c, ← o, all-n, all-m, ← (rw (all-n, all-m) at is))
@@ -170,38 +207,90 @@ module _ (row count n : ℕ) (octets : List ℕ) (b x : Bench) where
     pub noted-beat : row ≡ 56 → x ≡ rule.withRecord b (beat (b .«record» .count) (b .«record») (n % 256) .rec) → x ≡ rule.noted row count n octets b
     noted-beat f g = rw (e, eq-eqb row 56 f) g
 
-    pub noted-lent : (c : Bench) → (row ≡ 56 → ⊥) → c ≡ rule.lentNoted row n b → x ≡ c → x ≡ rule.noted row count n octets b
-    noted-lent c z f g = rw (e, ne-eqb row 56 z) (g ∙ f)
+    module _ (z : row ≡ 56 → ⊥) where
+      pub noted-commands : (leb 57 row && leb row 59) ≡ true → x ≡ rule.withOutstanding b (rule.commandsAfter row count n octets (b .outstanding))
+          → x ≡ rule.noted row count n octets b
+      noted-commands f g = rw (e, ne-eqb row 56 z, f) g
+
+      pub noted-lent : (c : Bench) → (leb 57 row && leb row 59) ≡ false → c ≡ rule.lentNoted row n b → x ≡ c → x ≡ rule.noted row count n octets b
+      noted-lent c y f g = rw (e, ne-eqb row 56 z, y) (g ∙ f)
+
+-- ---- outstanding commands
+pub command-told : (o a d : List ℕ) (s : ℕ) (t : Tar) (n : Cntr) → s ≡ senderOf o → a ≡ drop 4 o → d ≡ drop 7 o → t ≡ tarOf a → n ≡ cntrOf d
+    → record { sender = s; tar = t; cntr = n } ≡ rule.commandOf o
+command-told o a d s t n e f g h i = rw (e, h, i, f, g)
+
+pub sent-told : (t u : Outstanding) (o : List ℕ) (c : SentCommand) (a : Sending) → c ≡ rule.commandOf o
+    → settled (toldSending a) u ≡ commandSent t (sentCommand (c .sender) (c .tar) (c .cntr)) → u ≡ commandSent t (rule.commandOf o) .1
+sent-told t u o c a e f = ap (λ (x : Settled Unit). x .1) (rw e at f)
+
+pub came-told : (t u : Outstanding) (o p : List ℕ) (s : ℕ) (a : Closing) → s ≡ senderOf o → p ≡ drop 4 o
+    → settled (toldClosing a) u ≡ responseCame t s p → u ≡ responseCame t (senderOf o) (drop 4 o) .1
+came-told t u o p s a e f g = ap (λ (x : Settled Fate). x .1) (rw (e, f) at g)
+
+module _ (count n : ℕ) (e : SentCommand) (t : Outstanding) where
+  pub written-none : count ≡ 0 → t ≡ rule.tableWritten count n e t
+  written-none z = rw (eq-eqb count 0 z)
+
+  module _ (z : count ≡ 0 → ⊥) where
+    pub written-count : count ≡ 1 → record { count = n % 256; entries = t .entries } ≡ rule.tableWritten count n e t
+    written-count y = rw (ne-eqb count 0 z, eq-eqb count 1 y)
+
+    pub written-entry : (count ≡ 1 → ⊥) → record { count = t .count; entries = set (t .entries) (n % 8) e } ≡ rule.tableWritten count n e t
+    written-entry y = rw (ne-eqb count 0 z, ne-eqb count 1 y)
+
+module _ (row count n : ℕ) (octets : List ℕ) (t u : Outstanding) where
+  pub after-sent : row ≡ 57 → u ≡ commandSent t (rule.commandOf octets) .1 → u ≡ rule.commandsAfter row count n octets t
+  after-sent e f = rw (eq-eqb row 57 e) f
+
+  module _ (z : row ≡ 57 → ⊥) where
+    pub after-answered : row ≡ 58 → u ≡ responseCame t (senderOf octets) (drop 4 octets) .1 → u ≡ rule.commandsAfter row count n octets t
+    after-answered e f = rw (ne-eqb row 57 z, eq-eqb row 58 e) f
+
+    pub after-written : (c : SentCommand) → (row ≡ 58 → ⊥) → c ≡ rule.commandOf octets → u ≡ rule.tableWritten count n c t → u ≡ rule.commandsAfter row count n octets t
+    after-written c y e f = rw (ne-eqb row 57 z, ne-eqb row 58 y, ← e) f
+
+pub commands-told : (b x : Bench) (t u : Outstanding) → x ≡ rule.withOutstanding b t → t ≡ u → x ≡ rule.withOutstanding b u
+commands-told b x t u e f = rw (← f) e
 
 -- ---- by the row
 module _ (row count n : ℕ) (octets : List ℕ) (b c : Bench) (cells output cells′ output′ : List ℕ) where
-  pub changed-takes : row < 3 → held c cells′ output′ ≡ rule.heldTaken (held b cells output) (rule.call row octets (rule.called (held b cells output)))
+  pub changed-takes : (way at : ℕ) → way ≡ rule.wayOf row octets → at ≡ rule.ownAt row → way < 3
+      → held c cells′ output′ ≡ rule.heldTaken (held b cells output) (rule.call way at octets (rule.called (held b cells output)))
       → held c cells′ output′ ≡ rowChanges row count n octets (held b cells output)
   unfolding rowChanges
-  changed-takes l h = rw (lt-ltb row 3 l) h
+  changed-takes way at e f l h = rw (← e, lt-ltb way 3 l, ← f) h
 
-  module _ (l : 3 ≤ row) where
+  module _ (way : ℕ) (is : way ≡ rule.wayOf row octets) (l : 3 ≤ way) where
     pub changed-fresh : (m : ℕ) → row < 6 → m ≡ rule.slotsAsked count n
         → held c cells′ output′ ≡ rule.freshMade (kindBy (eqb row 5)) m (held b cells output)
         → held c cells′ output′ ≡ rowChanges row count n octets (held b cells output)
     unfolding rowChanges
-    changed-fresh m k e h = rw (le-ltb row 3 l, lt-ltb row 6 k, ← e) h
+    changed-fresh m k e h = rw (← is, le-ltb way 3 l, lt-ltb row 6 k, ← e) h
 
     module _ (k : 6 ≤ row) where
       pub changed-fills : (x : ℕ) → row ≡ 6 → x ≡ getD octets 0 0 → cells′ ≡ replicate (length cells) x → output′ ≡ replicate (length output) x → c ≡ b
           → held c cells′ output′ ≡ rowChanges row count n octets (held b cells output)
       unfolding rowChanges
-      changed-fills x e f g h i = rw (le-ltb row 3 l, le-ltb row 6 k, eq-eqb row 6 e, g, h, i, f)
+      changed-fills x e f g h i = rw (← is, le-ltb way 3 l, le-ltb row 6 k, eq-eqb row 6 e, g, h, i, f)
 
       pub changed-notes : (row ≡ 6 → ⊥) → c ≡ rule.noted row count n octets b → held c cells output ≡ rowChanges row count n octets (held b cells output)
       unfolding rowChanges
-      changed-notes z e = rw (le-ltb row 3 l, le-ltb row 6 k, ne-eqb row 6 z, ← e)
+      changed-notes z e = rw (← is, le-ltb way 3 l, le-ltb row 6 k, ne-eqb row 6 z, ← e)
 
 pub ruleset steps = (
   needs,
   start-told,
   call-message,
   call-page,
+  way-row,
+  way-message,
+  way-page,
+  way-unsound,
+  own-captured,
+  own-message,
+  own-page,
+  meant-told,
   taken-told,
   note-lends,
   note-right,
@@ -225,8 +314,19 @@ pub ruleset steps = (
   counters-told,
   noted-counters,
   noted-beat,
+  noted-commands,
   noted-lent,
   beat-told,
+  command-told,
+  sent-told,
+  came-told,
+  written-none,
+  written-count,
+  written-entry,
+  after-sent,
+  after-answered,
+  after-written,
+  commands-told,
   changed-takes,
   changed-fresh,
   changed-fills,

@@ -1,21 +1,25 @@
 -- What is kept from line to line, and what a line that is understood leaves of it, by its row: record, cells and output are those of the library's
--- rule for the call that the line asks for, and so is the table of counters.
-use Prim.Native.Nat.{ℕ, _-_, _%_, min}
-use mathlib.Core.Bool.{false, true, cond, _&&_}
+-- rule for the call that the line asks for, and so are the tables of counters and of outstanding commands.
+use Prim.Native.Nat.{ℕ, _+_, _-_, _%_, min}
+use mathlib.Core.Bool.{Bool, false, true, not, cond, _&&_}
 use mathlib.Core.List.{List, [], _∷_, _++_}
 use lib.Dec.{eqb, ltb, leb}
 use lib.ListN.{length, take, drop, getD, set, replicate}
 use Rattle.types.specs.declared.Kind.{Kind}
 use Rattle.types.specs.declared.Kind.the-variants.{Command}
 use Rattle.types.specs.declared.Record.{Record}
+use Rattle.types.specs.declared.Captured.{Captured}
+use Rattle.types.specs.declared.Captured.the-variants.{UserData, Page, Unsound}
 use Rattle.types.specs.declared.CounterEntry.{CounterEntry}
 use Rattle.types.specs.declared.Counters.{Counters}
-use Rattle.skelmarix.specs.Rules.{mostOctets, cellsSize, defaultSlots, isSlotNumber, freshRecord, State, After, state, takeMessage, takePage, beat, noCounters, judgeCounter}
+use Rattle.types.specs.declared.SentCommand.{SentCommand}
+use Rattle.types.specs.declared.Outstanding.{Outstanding}
+use Rattle.skelmarix.specs.Rules.{mostOctets, cellsSize, defaultSlots, isSlotNumber, freshRecord, State, After, state, takeMessage, takePage, beat, noCounters, judgeCounter, sentCommand, noCommands, commandSent, responseCame, recordHead, recordIn}
 use Rattle.lines.specs.Lent.{right, lentOf, kindBy, senderOf, tarOf, cntrOf}
 use Rattle.changes.specs.declared.Bench.{Bench}
 
 -- ---- what is held
--- beside the record, the table of counters, how much is lent and the flag, all octets of the cells and of the output
+-- beside the record, the two tables, how much is lent and the flag, all octets of the cells and of the output
 pub record Held : Type 0 where
   pub bench : Bench
   pub cells : List ℕ
@@ -29,7 +33,7 @@ abbrev pub allRight : List ℕ
 allRight = right ∷ right ∷ right ∷ []
 
 abbrev pub atStart : Bench
-atStart = record { «record» = freshRecord defaultSlots Command; counters = noCounters; lent = allRight; numbered = false }
+atStart = record { «record» = freshRecord defaultSlots Command; counters = noCounters; outstanding = noCommands; lent = allRight; numbered = false }
 
 abbrev pub lentCells : Held → ℕ
 lentCells h = lentOf (getD (h .bench .lent) 0 0) (cellsSize (h .bench .«record» .count)) (length (h .cells))
@@ -42,22 +46,37 @@ abbrev pub called : Held → State
 called h = state (h .bench .«record») (take (lentCells h) (h .cells)) (take (lentOutput h) (h .output))
 
 abbrev pub withRecord : Bench → Record → Bench
-withRecord b r = record { «record» = r; counters = b .counters; lent = b .lent; numbered = b .numbered }
+withRecord b r = record { «record» = r; counters = b .counters; outstanding = b .outstanding; lent = b .lent; numbered = b .numbered }
 
 abbrev pub withLent : Bench → List ℕ → Bench
-withLent b l = record { «record» = b .«record»; counters = b .counters; lent = l; numbered = b .numbered }
+withLent b l = record { «record» = b .«record»; counters = b .counters; outstanding = b .outstanding; lent = l; numbered = b .numbered }
 
 abbrev pub withCounters : Bench → Counters → Bench
-withCounters b c = record { «record» = b .«record»; counters = c; lent = b .lent; numbered = b .numbered }
+withCounters b c = record { «record» = b .«record»; counters = c; outstanding = b .outstanding; lent = b .lent; numbered = b .numbered }
+
+abbrev pub withOutstanding : Bench → Outstanding → Bench
+withOutstanding b t = record { «record» = b .«record»; counters = b .counters; outstanding = t; lent = b .lent; numbered = b .numbered }
 
 abbrev pub nowNumbered : Bench → Bench
-nowNumbered b = record { «record» = b .«record»; counters = b .counters; lent = b .lent; numbered = true }
+nowNumbered b = record { «record» = b .«record»; counters = b .counters; outstanding = b .outstanding; lent = b .lent; numbered = true }
 
 -- ---- what is held afterwards, by the line's row
--- row 1 `message SENDER UD`, row 2 `page PAGE`
-abbrev pub call : ℕ → List ℕ → State → After
-call row octets s =
-    cond (eqb row 1) (takeMessage (s .rec .count) s (senderOf octets) (drop 4 octets)) (takePage (s .rec .count) s octets)
+-- row 1 `message SENDER UD`, row 2 `page PAGE`, row 60 `captured SENDER RECORD`: a message or a page, as the record of the capture is one
+abbrev pub capturedWay : ℕ → Captured → ℕ
+capturedWay row (UserData start) = 1
+capturedWay row (Page start) = 2
+capturedWay row Unsound = row
+
+abbrev pub wayOf : ℕ → List ℕ → ℕ
+wayOf row octets = cond (eqb row 60) (capturedWay row (recordIn (drop 4 octets))) row
+
+-- its own octets stand behind the sender, and behind mark and head
+abbrev pub ownAt : ℕ → ℕ
+ownAt row = cond (eqb row 60) (4 + recordHead) (cond (eqb row 1) 4 0)
+
+abbrev pub call : ℕ → ℕ → List ℕ → State → After
+call way at octets s =
+    cond (eqb way 1) (takeMessage (s .rec .count) s (senderOf octets) (drop at octets)) (takePage (s .rec .count) s (drop at octets))
 
 -- what a taking left of what was lent, and the rest as it was
 abbrev pub heldTaken : Held → After → Held
@@ -105,18 +124,41 @@ countersAfter row count n octets c =
     (cond (eqb row 54) (cond (eqb count 0) c (withInUse c (n % 256)))
     (judgeCounter c octets .counters))
 
+-- the command of a line: SENDER, TAR and CNTR are its octets
+abbrev pub commandOf : List ℕ → SentCommand
+commandOf o = sentCommand (senderOf o) (tarOf (drop 4 o)) (cntrOf (drop 7 o))
+
+-- with another count in use, or with an entry as it stands, by how many words the line has
+abbrev pub tableWritten : ℕ → ℕ → SentCommand → Outstanding → Outstanding
+tableWritten count n e t =
+    cond (eqb count 0) t
+    (cond (eqb count 1) (record { count = n % 256; entries = t .entries })
+    (record { count = t .count; entries = set (t .entries) (n % 8) e }))
+
+-- row 57 `sent SENDER TAR CNTR`, row 58 `answered SENDER PACKET`, row 59 `outstanding`, `outstanding N` and `outstanding I SENDER TAR CNTR`
+abbrev pub commandsAfter : ℕ → ℕ → ℕ → List ℕ → Outstanding → Outstanding
+commandsAfter row count n octets t =
+    cond (eqb row 57) (commandSent t (commandOf octets) .1)
+    (cond (eqb row 58) (responseCame t (senderOf octets) (drop 4 octets) .1)
+    (tableWritten count n (commandOf octets) t))
+
 -- the lines that leave cells and output as they are; row 56 `beat LIMIT`
 abbrev pub noted : ℕ → ℕ → ℕ → List ℕ → Bench → Bench
 noted row count n octets b =
     cond (leb 53 row && leb row 55) (withCounters b (countersAfter row count n octets (b .counters)))
     (cond (eqb row 56) (withRecord b (beat (b .«record» .count) (b .«record») (n % 256) .rec))
-    (lentNoted row n b))
+    (cond (leb 57 row && leb row 59) (withOutstanding b (commandsAfter row count n octets (b .outstanding)))
+    (lentNoted row n b)))
+
+-- the words of a line that was read can be meant: an entry of row 59 is one of eight, and the record of row 60 is sound by itself
+abbrev pub meant : ℕ → ℕ → ℕ → List ℕ → Bool
+meant row count n octets = not (eqb row 59 && ltb 1 count && ltb 7 n) && not (eqb (wayOf row octets) 60)
 
 -- and row 4 `fresh command N`, row 5 `fresh response N`, row 6 `fill HH`; the lines of other rows leave all as it is. n is the first number of the
 -- line, and count how many words there are behind the names.
 unfoldable pub rowChanges : ℕ → ℕ → ℕ → List ℕ → Held → Held
 rowChanges row count n octets h =
-    cond (ltb row 3) (heldTaken h (call row octets (called h)))
+    cond (ltb (wayOf row octets) 3) (heldTaken h (call (wayOf row octets) (ownAt row) octets (called h)))
     (cond (ltb row 6) (freshMade (kindBy (eqb row 5)) (slotsAsked count n) h)
     (cond (eqb row 6) (allFilled h (h .bench) (getD octets 0 0))
     (held (noted row count n octets (h .bench)) (h .cells) (h .output))))

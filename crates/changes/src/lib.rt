@@ -1,4 +1,6 @@
-// What is kept from line to line, and the lines that change it: taking, a fresh record, filling, lending, numbering, counters.
+// What is kept from line to line, and the lines that change it: taking, a fresh record, filling, lending, numbering, beats, counters,
+// outstanding commands.
+mod commands;
 mod counters;
 mod notes;
 
@@ -11,13 +13,14 @@ ghost use lib.ListN.{length, getD, replicate};
 ghost use Rattle.skelmarix.specs.Rules.{cellsSize, state, after, toldAnswer};
 ghost use Rattle.lines.specs.Lent.{kindBy, lentOf};
 ghost use Rattle.changes.specs.Kept as rule;
-ghost use Rattle.changes.specs.Kept.{atStart, held, called, heldTaken, rowChanges, withRecord, slotsAsked, freshMade};
+ghost use Rattle.changes.specs.Kept.{atStart, held, called, heldTaken, wayOf, ownAt, meant, rowChanges, withRecord, slotsAsked, freshMade};
 
-// What is kept beside the buffers: the record, the table of counters, how many octets of cells, output and buffer are lent (`RIGHT` means the right
-// number), and whether answers are numbered.
+// What is kept beside the buffers: the record, the tables of counters and of outstanding commands, how many octets of cells, output and buffer are
+// lent (`RIGHT` means the right number), and whether answers are numbered.
 pub struct Bench {
     pub record: Record,
     pub counters: types::Counters,
+    pub outstanding: types::Outstanding,
     pub lent: [usize; 3],
     pub numbered: bool,
 }
@@ -28,13 +31,14 @@ pub struct Made {
     pub row: answers::Row,
 }
 
-// What is kept before the first line: a fresh record for commands, and no counters.
+// What is kept before the first line: a fresh record for commands, no counters, and no commands.
 pub fn start() -> Bench
     ensures { λ r. ⌜ r ≡ atStart ⌝ }
 {
     Bench {
         record: skelmarix::fresh_record(types::Kind::Command),
         counters: skelmarix::no_counters(),
+        outstanding: skelmarix::no_commands(),
         lent: [lines::RIGHT; 3],
         numbered: false,
     }
@@ -50,15 +54,50 @@ pub fn with_record(b: Bench, r: Record) -> Bench
 }
 
 // ---- taking
-// Takes a message or a page.
-fn call(row: usize, r: Record, octets: &[u8], cells: &mut [u8], output: &mut [u8]) -> types::Taken
-    ensures { λ t. ⌜ after (toldAnswer (t .answer)) (t .record) (now (cells .exit)) (now (output .exit)) ≡ rule.call row (now (octets .entry)) (state r (now (cells .entry)) (now (output .entry))) ⌝ }
+// What a line takes: a message, 1, or a page, 2, as the kind of a captured record says. A line that takes nothing keeps its row, and so does one
+// whose record is not sound by itself.
+fn way_of(row: usize, octets: &[u8]) -> usize
+    ensures { λ r. ⌜ r ≡ wayOf row (now (octets .entry)) ⌝ }
 {
-    if row == table::MESSAGE {
-        let ud = skelmarix::own_octets(octets, 4);
-        return skelmarix::take_message(r, lines::fields::sender_of(octets), ud, cells, output);
+    if row != table::CAPTURED {
+        return row;
     }
-    skelmarix::take_page(r, octets, cells, output)
+    match skelmarix::read_captured(skelmarix::own_octets(octets, 4)) {
+        types::Captured::UserData { start } => 1,
+        types::Captured::Page { start } => 2,
+        types::Captured::Unsound => row,
+    }
+}
+
+// Where the own octets of a captured record begin in its line: behind the sender, and behind mark and head.
+const CAPTURED_AT: usize = 4 + types::CAPTURE_HEAD;
+
+// Where the octets of the message or of the page begin.
+fn own_at(row: usize) -> usize
+    ensures { λ r. ⌜ r ≡ ownAt row ⌝ }
+{
+    if row == table::CAPTURED {
+        return CAPTURED_AT;
+    }
+    if row == table::MESSAGE { 4 } else { 0 }
+}
+
+// Takes a message or a page.
+fn call(
+    way: usize,
+    at: usize,
+    r: Record,
+    octets: &[u8],
+    cells: &mut [u8],
+    output: &mut [u8],
+) -> types::Taken
+    ensures { λ t. ⌜ after (toldAnswer (t .answer)) (t .record) (now (cells .exit)) (now (output .exit)) ≡ rule.call way at (now (octets .entry)) (state r (now (cells .entry)) (now (output .entry))) ⌝ }
+{
+    let own = skelmarix::own_octets(octets, at);
+    if way == table::MESSAGE {
+        return skelmarix::take_message(r, lines::fields::sender_of(octets), own, cells, output);
+    }
+    skelmarix::take_page(r, own, cells, output)
 }
 
 // How many octets of so many are lent of the cells, 0, or the output, 1.
@@ -77,12 +116,19 @@ fn right_cells(r: Record) -> usize
     r.count as usize * types::SLOT_OCTETS
 }
 
-fn take(row: usize, octets: &[u8], b: Bench, cells: &mut [u8], output: &mut [u8]) -> Made
-    ensures { λ r. ⌜ held (r .bench) (now (cells .exit)) (now (output .exit)) ≡ heldTaken (held b (now (cells .entry)) (now (output .entry))) (rule.call row (now (octets .entry)) (called (held b (now (cells .entry)) (now (output .entry))))) ⌝ }
+fn take(way: usize, at: usize, octets: &[u8], b: Bench, cells: &mut [u8], output: &mut [u8]) -> Made
+    ensures { λ r. ⌜ held (r .bench) (now (cells .exit)) (now (output .exit)) ≡ heldTaken (held b (now (cells .entry)) (now (output .entry))) (rule.call way at (now (octets .entry)) (called (held b (now (cells .entry)) (now (output .entry))))) ⌝ }
 {
     let n = lent_of(b, 0, right_cells(b.record), cells.len());
     let m = lent_of(b, 1, types::PACKET_OCTETS, output.len());
-    let t = call(row, b.record, octets, &mut cells[0..n], &mut output[0..m]);
+    let t = call(
+        way,
+        at,
+        b.record,
+        octets,
+        &mut cells[0..n],
+        &mut output[0..m],
+    );
     let answer = t.answer;
     let after = t.record;
     Made {
@@ -135,6 +181,15 @@ fn fresh(response: bool, n: u8, b: Bench, cells: &mut [u8], output: &mut [u8]) -
 }
 
 // ---- by the row
+// Whether the words of a line that was read can be meant: an entry of the table of outstanding commands is one of eight, and the record of a capture
+// is sound by itself.
+pub fn is_meant(row: usize, count: usize, n: usize, octets: &[u8]) -> bool
+    ensures { λ r. ⌜ r ≡ meant row count n (now (octets .entry)) ⌝ }
+{
+    let way = way_of(row, octets);
+    !((row == table::OUTSTANDING) & (1 < count) & (7 < n)) & !(way == table::CAPTURED)
+}
+
 // Changes what is kept as the line's row says.
 pub fn change(
     row: usize,
@@ -147,8 +202,9 @@ pub fn change(
 ) -> Made
     ensures { λ r. ⌜ held (r .bench) (now (cells .exit)) (now (output .exit)) ≡ rowChanges row count n (now (octets .entry)) (held b (now (cells .entry)) (now (output .entry))) ⌝ }
 {
-    if row < 3 {
-        return take(row, octets, b, cells, output);
+    let way = way_of(row, octets);
+    if way < 3 {
+        return take(way, own_at(row), octets, b, cells, output);
     }
     if row < table::FILL {
         let slots = slots_asked(count, n);

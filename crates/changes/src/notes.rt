@@ -1,4 +1,5 @@
-// Lines that leave cells and output as they are: lending, numbering, the number of slots, the beat, and the table of counters.
+// Lines that leave cells and output as they are: lending, numbering, the number of slots, the beat, and the tables of
+// counters and of outstanding commands.
 use crate::Bench;
 use crate::Made;
 use crate::with_record;
@@ -9,7 +10,7 @@ ghost use Prim.Native.Nat.{_<_, _%_};
 ghost use lib.ListN.{set};
 ghost use Rattle.skelmarix.specs.Rules.{beat};
 ghost use Rattle.changes.specs.Kept as rule;
-ghost use Rattle.changes.specs.Kept.{lentNoted, withRecord, withCount, withLent, withCounters, countersAfter};
+ghost use Rattle.changes.specs.Kept.{lentNoted, withRecord, withCount, withLent, withCounters, countersAfter, withOutstanding, commandsAfter};
 
 fn lend(b: Bench, i: usize, n: usize) -> Bench
     requires { ⌜ i < 3 ⌝ }
@@ -95,6 +96,27 @@ fn counted(row: usize, count: usize, n: usize, octets: &[u8], b: Bench) -> Made
     }
 }
 
+// ---- outstanding commands
+fn with_outstanding(b: Bench, t: types::Outstanding) -> Bench
+    ensures { λ x. ⌜ x ≡ withOutstanding b t ⌝ }
+{
+    let mut d = b;
+    d.outstanding = t;
+    d
+}
+
+fn commanded(row: usize, count: usize, n: usize, octets: &[u8], b: Bench) -> Made
+    ensures { λ r. ⌜ r .bench ≡ withOutstanding b (commandsAfter row count n (now (octets .entry)) (b .outstanding)) ⌝ }
+{
+    let l = crate::commands::after(row, count, n, octets, b.outstanding);
+    let table = l.outstanding;
+    let answer = l.row;
+    Made {
+        bench: with_outstanding(b, table),
+        row: answer,
+    }
+}
+
 // ---- the beat
 // A beat on the record, with the line's number as the limit.
 fn beaten(n: usize, b: Bench) -> Made
@@ -118,6 +140,9 @@ pub(crate) fn noted(row: usize, count: usize, n: usize, octets: &[u8], b: Bench)
     }
     if row == table::BEAT {
         return beaten(n, b);
+    }
+    if (table::SENT <= row) & (row <= table::OUTSTANDING) {
+        return commanded(row, count, n, octets, b);
     }
     named(note(row, n, b), row, n)
 }

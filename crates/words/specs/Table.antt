@@ -132,11 +132,15 @@ rows =
     row 0 "counters" (orNone octet) ∷
     row 0 "judge" any ∷
     row 0 "beat" octet ∷
+    row 0 "sent" (octets 4 then octets 3 then octets 5) ∷
+    row 0 "answered" (octets 4 then any) ∷
+    row 0 "outstanding" (orNone octet then orNone (octets 4) then octets 3 then octets 5) ∷
+    row 0 "captured" (octets 4 then any) ∷
     []
 
 -- how many there are
 abbrev pub rowCount : ℕ
-rowCount = 57
+rowCount = 61
 
 -- the key of a name behind an earlier row
 abbrev pub nameAfter : ℕ → ℕ → ℕ

@@ -6,7 +6,7 @@ ghost use lib.ListN.{getD};
 ghost use Rattle.words.specs.Table.{rowCount, keys, rowOf, allSorts, mostOf};
 
 // How many rows there are; row 0 is where a line begins, and stands for none.
-const ROWS: usize = 57;
+const ROWS: usize = 61;
 
 // The rows that lines are told apart by.
 pub const MESSAGE: usize = 1;
@@ -73,6 +73,14 @@ pub const JUDGE: usize = 55;
 
 pub const BEAT: usize = 56;
 
+pub const SENT: usize = 57;
+
+pub const ANSWERED: usize = 58;
+
+pub const OUTSTANDING: usize = 59;
+
+pub const CAPTURED: usize = 60;
+
 // The key of each row: its earlier row and its name.
 const KEYS: [u64; ROWS] = [
     0,
@@ -132,6 +140,10 @@ const KEYS: [u64; ROWS] = [
     119905326675,
     11178213,
     70708,
+    628180,
+    50053957796,
+    17650035007301063,
+    104711506084,
 ];
 
 // The sorts of the words that follow, six bits each, the first lowest.
@@ -193,6 +205,10 @@ const SORTS: [u64; ROWS] = [
     0x15,
     0x20,
     0x5,
+    0x258E4,
+    0x824,
+    0x963D15,
+    0x824,
 ];
 
 // The greatest number of each sort.

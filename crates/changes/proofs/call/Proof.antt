@@ -1,4 +1,4 @@
--- By cases on the row. Assumes nothing.
+-- By cases on the way. Assumes nothing.
 use Rattle.changes.proofs.Steps.{steps}
 use Rattle.changes.proofs.call.Statement.{statement}
 use Rattle.changes.proofs.call.Tie as tie
@@ -6,5 +6,4 @@ use Rattle.changes.proofs.call.Tie as tie
 pub call-spec : {M : Type 1} → statement M
 call-spec =
     tie.close
-    (tie.spec (λ c κs. search steps) (λ c κs. search steps) (λ c κs. search steps) (λ c. search steps) (λ c. search steps) (λ c. search steps)
-    (λ c κs. search steps) (λ c. search steps) (λ c. search steps) (λ c. search steps))
+    (tie.spec (λ c κs. search steps) (λ c κs. search steps) (λ c κs. search steps) (λ c. search steps) (λ c. search steps) (λ c. search steps) (λ c κs. search steps) (λ c. search steps) (λ c. search steps) (λ c. search steps))
