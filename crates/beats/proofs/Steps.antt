@@ -21,16 +21,16 @@ use Rattle.slots.specs.Found.{length-of-map}
 use Rattle.slots.specs.Order.{firstWith, first-next, first-more, first-whole, Changed}
 use Rattle.formed.specs.Formed.{recordFormed}
 use Rattle.beats.specs.Beats.{raised, reached, afterBeat, beaten, beat}
-use Rattle.beats.specs.Laws.{Beaten, free, drops, stays, beaten?}
+use Rattle.beats.specs.Laws.{Beaten, was-free, is-dropped, is-older, beaten?}
 
 -- ---- one slot
 pub dead-told : (x : Slot) (limit : ℕ) → 0 < limit → used x && leb (limit - 1) (x .beats) ≡ reached limit (raised x)
 dead-told x limit l = go (beaten? limit x)
   where
     go : Beaten limit x → used x && leb (limit - 1) (x .beats) ≡ reached limit (raised x)
-    go (free z r e) = rw (r, eq-eqb (x .rank) 0 z)
-    go (drops u m r e) = rw (r, ne-eqb (x .rank) 0 (λ z. omega arith), le-leb (limit - 1) (x .beats) (omega arith))
-    go (stays u m r e) = rw (r, ne-eqb (x .rank) 0 (λ z. omega arith), lt-leb (limit - 1) (x .beats) (omega arith))
+    go (was-free z r e) = rw (r, eq-eqb (x .rank) 0 z)
+    go (is-dropped u m r e) = rw (r, ne-eqb (x .rank) 0 (λ z. omega arith), le-leb (limit - 1) (x .beats) (omega arith))
+    go (is-older u m r e) = rw (r, ne-eqb (x .rank) 0 (λ z. omega arith), lt-leb (limit - 1) (x .beats) (omega arith))
 
 module _ (x : Slot) (limit : ℕ) (dead : Bool) (is : dead ≡ reached limit (raised x)) where
   pub slot-dropped : (y : Slot) → dead ≡ true → y ≡ freeSlot → y ≡ afterBeat limit x
@@ -41,25 +41,25 @@ module _ (x : Slot) (limit : ℕ) (dead : Bool) (is : dead ≡ reached limit (ra
   slot-free d z = go (beaten? limit x)
     where
       go : Beaten limit x → x ≡ afterBeat limit x
-      go (free y r e) = sym e
-      go (drops u m r e) = absurd (omega arith)
-      go (stays u m r e) = absurd (omega arith)
+      go (was-free y r e) = sym e
+      go (is-dropped u m r e) = absurd (omega arith)
+      go (is-older u m r e) = absurd (omega arith)
 
   pub slot-older : dead ≡ false → (x .rank ≡ 0 → ⊥) → atCount (x .beats + 1) x ≡ afterBeat limit x
   slot-older d z = go (beaten? limit x)
     where
       go : Beaten limit x → atCount (x .beats + 1) x ≡ afterBeat limit x
-      go (free y r e) = absurd (z y)
-      go (drops u m r e) = absurd (clash (reached limit (raised x)) r (sym is ∙ d))
-      go (stays u m r e) = rw add-one (sym e)
+      go (was-free y r e) = absurd (z y)
+      go (is-dropped u m r e) = absurd (clash (reached limit (raised x)) r (sym is ∙ d))
+      go (is-older u m r e) = rw add-one (sym e)
 
   pub older-fits : dead ≡ false → (x .rank ≡ 0 → ⊥) → limit < 256 → Fits w8 (x .beats + 1)
   older-fits d z h = go (beaten? limit x)
     where
       go : Beaten limit x → Fits w8 (x .beats + 1)
-      go (free y r e) = absurd (z y)
-      go (drops u m r e) = absurd (clash (reached limit (raised x)) r (sym is ∙ d))
-      go (stays u m r e) = omega arith
+      go (was-free y r e) = absurd (z y)
+      go (is-dropped u m r e) = absurd (clash (reached limit (raised x)) r (sym is ∙ d))
+      go (is-older u m r e) = omega arith
 
 -- ---- the record
 module _ (limit : ℕ) (r : Record) where

@@ -16,7 +16,7 @@ use Rattle.changes.specs.declared.Bench.{Bench}
 use Rattle.changes.specs.Kept.{held, withRecord, meant, rowChanges}
 use Rattle.bench.specs.declared.Heard.{Heard}
 use Rattle.bench.specs.Lines as rule
-use Rattle.bench.specs.Lines.{LineLeaves, SlotPut, Says, Untouched}
+use Rattle.bench.specs.Lines.{LineLeaves, SlotPut, ReadSo, Untouched}
 
 clash : (b : Bool) → b ≡ true → b ≡ false → ⊥
 clash b p q = let z : _≡_ {A = ℕ} 0 1 = cc in omega arith
@@ -42,7 +42,7 @@ slot-kept s b z e t =
 -- ---- reading
 module _ (l : Line) (line line′ octets : List ℕ) (n : ℕ) (m : Bool) where
   pub says-told : Reads l line line′ → octets ≡ take (l .end) line′ → n ≡ getD (l .values) 0 0 → m ≡ meant (l .row) (l .count) n octets
-      → Says (record { understood = l .understood && m; more = l .more; row = l .row; sorts = l .sorts; values = l .values; count = l .count; at = l .at; end = l .end }) line line′
+      → ReadSo (record { understood = l .understood && m; more = l .more; row = l .row; sorts = l .sorts; values = l .values; count = l .count; at = l .at; end = l .end }) line line′
   says-told r e f g = record { is = step ∙ ap rule.meantBy (r .is); inside = r .inside }
     where
       step : gathered (record { understood = l .understood && m; more = l .more; row = l .row; sorts = l .sorts; values = l .values; count = l .count; at = l .at; end = l .end }) line′
@@ -54,7 +54,7 @@ module _ (line : List ℕ) (b : Bench) (cells output : List ℕ) (z : Heard) (t 
   pub leaves-nothing : t ≡ true → z .bench ≡ b → z .understood ≡ true → LineLeaves line b cells output z cells output
   leaves-nothing e f g = rule.nothing (sym is ∙ e) g (rw f)
 
-  module _ (e : t ≡ false) (l : Line) (line′ : List ℕ) (r : Says l line line′) where
+  module _ (e : t ≡ false) (l : Line) (line′ : List ℕ) (r : ReadSo l line line′) where
     understood-is : l .understood ≡ rule.lineSays line .understood
     understood-is = ap (λ (s : Gathered). s .understood) (r .is)
 

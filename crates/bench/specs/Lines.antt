@@ -33,7 +33,7 @@ abbrev pub lineSays : List ℕ → Gathered
 lineSays line = meantBy (lineRead line)
 
 -- what reading it leaves
-pub record Says (r : Line) (before after : List ℕ) : Type 0 where
+pub record ReadSo (r : Line) (before after : List ℕ) : Type 0 where
   pub is : gathered r after ≡ lineSays before
   pub inside : Apart (r .end) (r .at) before after
 

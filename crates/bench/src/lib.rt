@@ -13,7 +13,7 @@ ghost use mathlib.Core.Path.{_≡_};
 ghost use mathlib.Core.Bool.{true, false};
 ghost use lib.ListN.{getD, take};
 ghost use Rattle.changes.specs.Kept.{held, rowChanges};
-ghost use Rattle.bench.specs.Lines.{LineLeaves, Says, Untouched};
+ghost use Rattle.bench.specs.Lines.{LineLeaves, ReadSo, Untouched};
 
 // The result of a line: what is kept afterwards, and where the text ends with its answer.
 pub struct Heard {
@@ -72,7 +72,7 @@ fn done(
 
 // Reads a line; it is understood only if its words can be meant.
 fn read(line: &mut [u8]) -> Line
-    ensures { λ r. ⌜ Says r (now (line .entry)) (now (line .exit)) ⌝ }
+    ensures { λ r. ⌜ ReadSo r (now (line .entry)) (now (line .exit)) ⌝ }
 {
     let mut l = words::line::read(line);
     let octets = skelmarix::first_octets(line, l.end);

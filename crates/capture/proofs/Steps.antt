@@ -16,19 +16,19 @@ use Rattle.octets.specs.Octets.{placed, afterPut}
 use Rattle.octets.specs.Laws.{placed-start, put-behind}
 use Rattle.types.specs.Refusals.{lent, refused, gives, writes}
 use Rattle.types.specs.declared.Captured.the-variants.{UserData, Page, Unsound}
-use Rattle.capture.specs.Captures.{marked, kindOf, ownLength, recordLength, rightHead, beginsRight, sound, salvaged, nextRun, salvaging, soundAlone, recordIn}
+use Rattle.capture.specs.Captures.{hasMark, kindOf, ownLength, recordLength, rightHead, beginsRight, sound, salvaged, nextRun, salvaging, soundAlone, recordIn}
 use Rattle.capture.specs.Laws.{soundLength, skippedAt, runAt, marked-long, sound-inside, salvaged-sound, salvaged-skip, salvaged-none, skipped-none, skipped-sound, skipped-skip, run-sound, run-here, unsound-none}
 
 -- ---- a mark
 module _ (o : List ℕ) (at : ℕ) where
-  pub mark-short : length o - at < 2 → false ≡ marked (drop at o)
-  mark-short l = go (marked (drop at o)) refl
+  pub mark-short : length o - at < 2 → false ≡ hasMark (drop at o)
+  mark-short l = go (hasMark (drop at o)) refl
     where
-      go : (b : Bool) → marked (drop at o) ≡ b → false ≡ b
+      go : (b : Bool) → hasMark (drop at o) ≡ b → false ≡ b
       go true e = absurd (omega (arith, length-drop at o, marked-long (drop at o) e))
       go false e = refl
 
-  pub mark-told : (eqb (getD o at 0) 0xA5 && eqb (getD o (at + 1) 0) 0x5A) ≡ marked (drop at o)
+  pub mark-told : (eqb (getD o at 0) 0xA5 && eqb (getD o (at + 1) 0) 0x5A) ≡ hasMark (drop at o)
   mark-told = rw (getD-drop at o 0 0, getD-drop at o 1 0, add-zero at)
 
 -- ---- a sound record
@@ -42,7 +42,7 @@ module _ (o : List ℕ) (at : ℕ) where
   pub sound-short : length o - at < 4 → 0 ≡ soundLength (drop at o)
   sound-short l = never-sound (drop at o) (λ t. omega (arith, length-drop at o, sound-inside (drop at o) t))
 
-  module _ (m : Bool) (mark : m ≡ marked (drop at o)) where
+  module _ (m : Bool) (mark : m ≡ hasMark (drop at o)) where
     pub sound-unmarked : not m ≡ true → 0 ≡ soundLength (drop at o)
     unfolding sound
     sound-unmarked e = rw (← mark, not-true m e)
@@ -62,7 +62,7 @@ module _ (o : List ℕ) (at : ℕ) where
         pub sound-over : length o - at < n → 0 ≡ soundLength (drop at o)
         sound-over l = never-sound (drop at o) (λ t. omega (arith, length-drop at o, sound-inside (drop at o) t, length-told))
 
-        module _ (begun : not m ≡ false) (headed : not h ≡ false) (e : Bool) (end : e ≡ marked (drop (at + n) o)) where
+        module _ (begun : not m ≡ false) (headed : not h ≡ false) (e : Bool) (end : e ≡ hasMark (drop (at + n) o)) where
           told : sound (drop at o) ≡ (eqb (length o - at) n || e)
           unfolding sound
           told = rw (length-told, ← mark, not-false m begun, ← head-told, not-false h headed, drop-drop, ← end, length-drop)
@@ -245,7 +245,7 @@ module _ (o : List ℕ) (n : ℕ) (is : n ≡ soundLength (drop 0 o)) where
       unfolding sound
       is-alone =
           let (s, l) = tells in
-          let (b, e) = both (beginsRight o) (eqb (length o) (recordLength o) || marked (drop (recordLength o) o)) s in
+          let (b, e) = both (beginsRight o) (eqb (length o) (recordLength o) || hasMark (drop (recordLength o) o)) s in
           both-hold (beginsRight o) (eqb (length o) (recordLength o)) b (eq-eqb (length o) (recordLength o) (omega arith))
 
       pub captured-long : 2 < length o

@@ -11,8 +11,8 @@ use Rattle.types.specs.declared.Captured.the-variants.{UserData, Page, Unsound}
 
 -- ---- a record, in the octets from its position to the file's end
 -- "a mark of two octets, A5 5A": both octets are there
-abbrev pub marked : List ℕ → Bool
-marked o = eqb (getD o 0 0) 0xA5 && eqb (getD o 1 0) 0x5A
+abbrev pub hasMark : List ℕ → Bool
+hasMark o = eqb (getD o 0 0) 0xA5 && eqb (getD o 1 0) 0x5A
 
 -- "then kind (1 user data, 2 page) and length, an octet each, and that many octets"
 abbrev pub recordHead : ℕ
@@ -33,11 +33,11 @@ rightHead kind own = (eqb kind 1 && leb own 140) || (eqb kind 2 && eqb own 88)
 
 -- "mark, kind and length are right"
 abbrev pub beginsRight : List ℕ → Bool
-beginsRight o = marked o && rightHead (kindOf o) (ownLength o)
+beginsRight o = hasMark o && rightHead (kindOf o) (ownLength o)
 
 -- "At a position a record is sound if mark, kind and length are right and it ends at the file's end or where another mark stands."
 unfoldable pub sound : List ℕ → Bool
-sound o = beginsRight o && (eqb (length o) (recordLength o) || marked (drop (recordLength o) o))
+sound o = beginsRight o && (eqb (length o) (recordLength o) || hasMark (drop (recordLength o) o))
 
 -- ---- a file
 -- "A sound record is copied and reading goes on after it, otherwise one octet is skipped": of each octet in turn, whether it is copied. `left`

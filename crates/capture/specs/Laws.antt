@@ -11,7 +11,7 @@ use lib.Dec.{eqb}
 use borrow.Author.Tests.{eqb-true}
 use Rattle.octets.specs.Tests.{clash, both, by-test}
 use Rattle.types.specs.declared.SkippedRun.{SkippedRun}
-use Rattle.capture.specs.Captures.{marked, recordLength, beginsRight, sound, fates, chosen, salvaged, leading, nextRun}
+use Rattle.capture.specs.Captures.{hasMark, recordLength, beginsRight, sound, fates, chosen, salvaged, leading, nextRun}
 
 -- ---- what the inner calls promise
 -- how many octets the sound record has that stands at the front; none, if no record is sound there
@@ -27,7 +27,7 @@ abbrev pub runAt : List ℕ → ℕ → SkippedRun
 runAt file at = record { first = at; count = skippedAt (drop at file); next = at + skippedAt (drop at file) }
 
 -- ---- a sound record is inside the file
-pub marked-long : (o : List ℕ) → marked o ≡ true → 2 ≤ length o
+pub marked-long : (o : List ℕ) → hasMark o ≡ true → 2 ≤ length o
 marked-long [] e = absurd (clash false e refl)
 marked-long (x ∷ []) e = absurd (clash false (both (eqb x 0xA5) false e .1) refl)
 marked-long (x ∷ y ∷ o) e = omega arith
@@ -36,9 +36,9 @@ pub sound-inside : (o : List ℕ) → sound o ≡ true → recordLength o ≤ le
 unfolding sound
 sound-inside o e =
     let n = recordLength o in
-    let f = both (beginsRight o) (eqb (length o) n || marked (drop n o)) e .1 in
+    let f = both (beginsRight o) (eqb (length o) n || hasMark (drop n o)) e .1 in
     by-test (eqb (length o) n) (λ t. omega (arith, eqb-true (length o) n t))
-    (λ t. let m : marked (drop n o) ≡ true = rw t at f in omega (arith, length-drop n o, marked-long (drop n o) m))
+    (λ t. let m : hasMark (drop n o) ≡ true = rw t at f in omega (arith, length-drop n o, marked-long (drop n o) m))
 
 -- ---- how reading goes on
 fates-left : (n : ℕ) (o : List ℕ) → n ≤ length o → fates n o ≡ replicate n true ++ fates 0 (drop n o)

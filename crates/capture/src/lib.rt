@@ -10,14 +10,14 @@ ghost use mathlib.Core.Path.{_≡_};
 ghost use Prim.Native.Nat.{_+_, _≤_};
 ghost use lib.ListN.{length, drop};
 ghost use Rattle.types.specs.Refusals.{gives, lent, writes, toldWritten};
-ghost use Rattle.capture.specs.Captures.{marked, recordHead, rightHead, salvaged, nextRun, salvaging, recordIn};
+ghost use Rattle.capture.specs.Captures.{hasMark, recordHead, rightHead, salvaged, nextRun, salvaging, recordIn};
 ghost use Rattle.capture.specs.Laws.{soundLength, skippedAt, runAt};
 
 // ---- a record
 // Whether a mark stands at a position.
 fn is_mark(file: &[u8], at: usize) -> bool
     requires { ⌜ at ≤ length (now file) ⌝ }
-    ensures { λ r. ⌜ r ≡ marked (drop at (now (file .entry))) ⌝ }
+    ensures { λ r. ⌜ r ≡ hasMark (drop at (now (file .entry))) ⌝ }
 {
     if file.len() - at < 2 {
         return false;

@@ -175,15 +175,15 @@ module _ (row : ℕ) (e : (ltb 7 row && ltb row 11) ≡ true) where
 -- ---- counters
 module _ (row count n : ℕ) (octets : List ℕ) (c d : Counters) where
   pub after-entry : (a : Counters) (e : CounterEntry) → row ≡ 53 → e ≡ rule.entryOf octets → a ≡ rule.withEntry c (n % 16) e → d ≡ a
-      → d ≡ rule.countersAfter row count n octets c
+      → d ≡ rule.countersBy row count n octets c
   after-entry a e r is w f = rw (eq-eqb row 53 r, ← is) (f ∙ w)
 
   module _ (z : row ≡ 53 → ⊥) where
-    pub after-count : (a : Counters) → row ≡ 54 → a ≡ cond (eqb count 0) c (rule.withInUse c (n % 256)) → d ≡ a → d ≡ rule.countersAfter row count n octets c
+    pub after-count : (a : Counters) → row ≡ 54 → a ≡ cond (eqb count 0) c (rule.withInUse c (n % 256)) → d ≡ a → d ≡ rule.countersBy row count n octets c
     after-count a r w f = rw (ne-eqb row 53 z, eq-eqb row 54 r) (f ∙ w)
 
     pub after-judging : (a : JudgedCounter) → (row ≡ 54 → ⊥) → assessed (toldJudgement (a .answer)) (a .counters) ≡ judgeCounter c octets
-        → a .counters ≡ rule.countersAfter row count n octets c
+        → a .counters ≡ rule.countersBy row count n octets c
     after-judging a y e = rw (ne-eqb row 53 z, ne-eqb row 54 y) (ap (λ (x : Assessed). x .counters) e)
 
 pub entry-told : (o rest : List ℕ) (t : Tar) (n : Cntr) → rest ≡ drop 3 o → t ≡ tarOf o → n ≡ cntrOf rest → record { tar = t; cntr = n } ≡ rule.entryOf o
@@ -199,20 +199,20 @@ pub counters-told : (b x : Bench) (c d : Counters) → x ≡ rule.withCounters b
 counters-told b x c d e f = rw (← f) e
 
 module _ (row count n : ℕ) (octets : List ℕ) (b x : Bench) where
-  pub noted-counters : (leb 53 row && leb row 55) ≡ true → x ≡ rule.withCounters b (rule.countersAfter row count n octets (b .counters))
-      → x ≡ rule.noted row count n octets b
+  pub noted-counters : (leb 53 row && leb row 55) ≡ true → x ≡ rule.withCounters b (rule.countersBy row count n octets (b .counters))
+      → x ≡ rule.keptNotes row count n octets b
   noted-counters e f = rw e f
 
   module _ (e : (leb 53 row && leb row 55) ≡ false) where
-    pub noted-beat : row ≡ 56 → x ≡ rule.withRecord b (beat (b .«record» .count) (b .«record») (n % 256) .rec) → x ≡ rule.noted row count n octets b
+    pub noted-beat : row ≡ 56 → x ≡ rule.withRecord b (beat (b .«record» .count) (b .«record») (n % 256) .rec) → x ≡ rule.keptNotes row count n octets b
     noted-beat f g = rw (e, eq-eqb row 56 f) g
 
     module _ (z : row ≡ 56 → ⊥) where
       pub noted-commands : (leb 57 row && leb row 59) ≡ true → x ≡ rule.withOutstanding b (rule.commandsAfter row count n octets (b .outstanding))
-          → x ≡ rule.noted row count n octets b
+          → x ≡ rule.keptNotes row count n octets b
       noted-commands f g = rw (e, ne-eqb row 56 z, f) g
 
-      pub noted-lent : (c : Bench) → (leb 57 row && leb row 59) ≡ false → c ≡ rule.lentNoted row n b → x ≡ c → x ≡ rule.noted row count n octets b
+      pub noted-lent : (c : Bench) → (leb 57 row && leb row 59) ≡ false → c ≡ rule.lentNoted row n b → x ≡ c → x ≡ rule.keptNotes row count n octets b
       noted-lent c y f g = rw (e, ne-eqb row 56 z, y) (g ∙ f)
 
 -- ---- outstanding commands
@@ -274,7 +274,7 @@ module _ (row count n : ℕ) (octets : List ℕ) (b c : Bench) (cells output cel
       unfolding rowChanges
       changed-fills x e f g h i = rw (← is, le-ltb way 3 l, le-ltb row 6 k, eq-eqb row 6 e, g, h, i, f)
 
-      pub changed-notes : (row ≡ 6 → ⊥) → c ≡ rule.noted row count n octets b → held c cells output ≡ rowChanges row count n octets (held b cells output)
+      pub changed-notes : (row ≡ 6 → ⊥) → c ≡ rule.keptNotes row count n octets b → held c cells output ≡ rowChanges row count n octets (held b cells output)
       unfolding rowChanges
       changed-notes z e = rw (← is, le-ltb way 3 l, le-ltb row 6 k, ne-eqb row 6 z, ← e)
 

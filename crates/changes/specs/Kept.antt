@@ -118,8 +118,8 @@ abbrev pub withInUse : Counters → ℕ → Counters
 withInUse c n = record { count = n; entries = c .entries }
 
 -- row 53 `counter I TAR CNTR`, row 54 `counters N` or `counters`, row 55 `judge PACKET`
-abbrev pub countersAfter : ℕ → ℕ → ℕ → List ℕ → Counters → Counters
-countersAfter row count n octets c =
+abbrev pub countersBy : ℕ → ℕ → ℕ → List ℕ → Counters → Counters
+countersBy row count n octets c =
     cond (eqb row 53) (withEntry c (n % 16) (entryOf octets))
     (cond (eqb row 54) (cond (eqb count 0) c (withInUse c (n % 256)))
     (judgeCounter c octets .counters))
@@ -143,9 +143,9 @@ commandsAfter row count n octets t =
     (tableWritten count n (commandOf octets) t))
 
 -- the lines that leave cells and output as they are; row 56 `beat LIMIT`
-abbrev pub noted : ℕ → ℕ → ℕ → List ℕ → Bench → Bench
-noted row count n octets b =
-    cond (leb 53 row && leb row 55) (withCounters b (countersAfter row count n octets (b .counters)))
+abbrev pub keptNotes : ℕ → ℕ → ℕ → List ℕ → Bench → Bench
+keptNotes row count n octets b =
+    cond (leb 53 row && leb row 55) (withCounters b (countersBy row count n octets (b .counters)))
     (cond (eqb row 56) (withRecord b (beat (b .«record» .count) (b .«record») (n % 256) .rec))
     (cond (leb 57 row && leb row 59) (withOutstanding b (commandsAfter row count n octets (b .outstanding)))
     (lentNoted row n b)))
@@ -161,4 +161,4 @@ rowChanges row count n octets h =
     cond (ltb (wayOf row octets) 3) (heldTaken h (call (wayOf row octets) (ownAt row) octets (called h)))
     (cond (ltb row 6) (freshMade (kindBy (eqb row 5)) (slotsAsked count n) h)
     (cond (eqb row 6) (allFilled h (h .bench) (getD octets 0 0))
-    (held (noted row count n octets (h .bench)) (h .cells) (h .output))))
+    (held (keptNotes row count n octets (h .bench)) (h .cells) (h .output))))

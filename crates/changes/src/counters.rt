@@ -5,7 +5,7 @@ use types::JudgedCounter;
 use words::table;
 ghost use mathlib.Core.Path.{_≡_};
 ghost use Prim.Native.Nat.{_<_, _%_};
-ghost use Rattle.changes.specs.Kept.{entryOf, withEntry, withInUse, countersAfter};
+ghost use Rattle.changes.specs.Kept.{entryOf, withEntry, withInUse, countersBy};
 ghost use mathlib.Core.Bool.{cond};
 ghost use lib.Dec.{eqb};
 
@@ -52,7 +52,7 @@ fn unjudged(c: Counters) -> JudgedCounter
 
 // The table as a line leaves it, and what judging answers.
 pub(crate) fn after(row: usize, count: usize, n: usize, octets: &[u8], c: Counters) -> JudgedCounter
-    ensures { λ r. ⌜ r .counters ≡ countersAfter row count n (now (octets .entry)) c ⌝ }
+    ensures { λ r. ⌜ r .counters ≡ countersBy row count n (now (octets .entry)) c ⌝ }
 {
     if row == table::COUNTER {
         return unjudged(with_entry(c, n % 16, entry_of(octets)));

@@ -10,7 +10,7 @@ ghost use Prim.Native.Nat.{_<_, _%_};
 ghost use lib.ListN.{set};
 ghost use Rattle.skelmarix.specs.Rules.{beat};
 ghost use Rattle.changes.specs.Kept as rule;
-ghost use Rattle.changes.specs.Kept.{lentNoted, withRecord, withCount, withLent, withCounters, countersAfter, withOutstanding, commandsAfter};
+ghost use Rattle.changes.specs.Kept.{lentNoted, withRecord, withCount, withLent, withCounters, countersBy, withOutstanding, commandsAfter};
 
 fn lend(b: Bench, i: usize, n: usize) -> Bench
     requires { ⌜ i < 3 ⌝ }
@@ -85,7 +85,7 @@ fn with_counters(b: Bench, c: types::Counters) -> Bench
 }
 
 fn counted(row: usize, count: usize, n: usize, octets: &[u8], b: Bench) -> Made
-    ensures { λ r. ⌜ r .bench ≡ withCounters b (countersAfter row count n (now (octets .entry)) (b .counters)) ⌝ }
+    ensures { λ r. ⌜ r .bench ≡ withCounters b (countersBy row count n (now (octets .entry)) (b .counters)) ⌝ }
 {
     let j = crate::counters::after(row, count, n, octets, b.counters);
     let answer = j.answer;
@@ -133,7 +133,7 @@ fn beaten(n: usize, b: Bench) -> Made
 
 // ---- by the row
 pub(crate) fn noted(row: usize, count: usize, n: usize, octets: &[u8], b: Bench) -> Made
-    ensures { λ r. ⌜ r .bench ≡ rule.noted row count n (now (octets .entry)) b ⌝ }
+    ensures { λ r. ⌜ r .bench ≡ rule.keptNotes row count n (now (octets .entry)) b ⌝ }
 {
     if (table::COUNTER <= row) & (row <= table::JUDGE) {
         return counted(row, count, n, octets, b);

@@ -15,15 +15,15 @@ use lib.Dec.{eqb, leb}
 use borrow.Author.Tests.{eqb-true, leb-true, eq-eqb, ne-eqb, le-leb, lt-ltb, le-ltb}
 use Rattle.octets.specs.Tests.{clash, both, by-test}
 use Rattle.types.specs.declared.SkippedRun.{SkippedRun}
-use Rattle.capture.specs.Captures.{marked, recordLength, rightHead, beginsRight, sound, fates, chosen, salvaged, leading, nextRun, mostCapture, salvaging, soundAlone, recordIn}
+use Rattle.capture.specs.Captures.{hasMark, recordLength, rightHead, beginsRight, sound, fates, chosen, salvaged, leading, nextRun, mostCapture, salvaging, soundAlone, recordIn}
 use Rattle.capture.specs.Laws.{skippedAt, sound-inside, unsound-none, salvaged-sound, salvaged-skip, salvaged-none, skipped-none, skipped-sound, skipped-skip, run-sound, run-here, along}
 use Rattle.demands.specs.Lists.{concat}
-use Rattle.demands.specs.Capture.{CaptureRecord, userData, page, EndOrMark, fileEnd, nextMark, SoundAt, EveryRecord, runOf, Divides, ends, copies, skips, Listed, noMore, oneMore, octetsSkipped, Divided, OnlySo, StandsIn, InRecords, FromPosition, ByItself, SalvagesOrRefuses, captureExamples, EveryCapture, Salvage}
+use Rattle.demands.specs.Capture.{CaptureRecord, inUserData, inPage, EndOrMark, fileEnd, nextMark, SoundAt, EveryRecord, runOf, Divides, ends, copies, skips, Listed, noMore, oneMore, octetsSkipped, Divided, OnlySo, StandsIn, InRecords, FromPosition, ByItself, SalvagesOrRefuses, captureExamples, EveryCapture, Salvage}
 
 -- ---- a record, by its octets and by the tests
 record-head : {r : List ℕ} → CaptureRecord r → (rest : List ℕ) → (beginsRight (r ++ rest) ≡ true) × (recordLength (r ++ rest) ≡ length r)
-record-head (userData own l) rest = (rw (le-leb (length own) 140 l), omega arith)
-record-head (page own e) rest = (refl, omega arith)
+record-head (inUserData own l) rest = (rw (le-leb (length own) 140 l), omega arith)
+record-head (inPage own e) rest = (refl, omega arith)
 
 sound-before : {r rest : List ℕ} → CaptureRecord r → EndOrMark rest → sound (r ++ rest) ≡ true
 unfolding sound
@@ -36,10 +36,10 @@ pub sound-so : (o : List ℕ) → SoundAt o → sound o ≡ true
 sound-so o s = rw (s .front) (sound-before (s .right) (s .behind))
 
 user-record : (k n : ℕ) (own : List ℕ) → k ≡ 1 → n ≡ length own → n ≤ 140 → CaptureRecord (0xA5 ∷ 0x5A ∷ k ∷ n ∷ own)
-user-record k n own e f l = rw (e, f) (userData own (omega arith))
+user-record k n own e f l = rw (e, f) (inUserData own (omega arith))
 
 page-record : (k n : ℕ) (own : List ℕ) → k ≡ 2 → n ≡ 88 → n ≡ length own → CaptureRecord (0xA5 ∷ 0x5A ∷ k ∷ n ∷ own)
-page-record k n own e f l = rw (e, f) (page own (omega arith))
+page-record k n own e f l = rw (e, f) (inPage own (omega arith))
 
 record-found : (o : List ℕ) → beginsRight o ≡ true → recordLength o ≤ length o → CaptureRecord (take (recordLength o) o)
 record-found [] t l = absurd (omega arith)
@@ -56,7 +56,7 @@ record-found (a ∷ b ∷ k ∷ n ∷ o) t l =
     (λ u. let (x, y) = both (eqb k 1) (leb n 140) u in user-record k n (take n o) (eqb-true k 1 x) s (leb-true n 140 y))
     (λ u. let (x, y) = both (eqb k 2) (eqb n 88) (rw u at h) in page-record k n (take n o) (eqb-true k 2 x) (eqb-true n 88 y) s))
 
-mark-found : (o : List ℕ) → marked o ≡ true → EndOrMark o
+mark-found : (o : List ℕ) → hasMark o ≡ true → EndOrMark o
 mark-found [] e = fileEnd
 mark-found (x ∷ []) e = absurd (clash false (both (eqb x 0xA5) false e .1) refl)
 mark-found (x ∷ y ∷ o) e = let (p, q) = both (eqb x 0xA5) (eqb y 0x5A) e in rw (eqb-true x 0xA5 p, eqb-true y 0x5A q) (nextMark o)
@@ -64,13 +64,13 @@ mark-found (x ∷ y ∷ o) e = let (p, q) = both (eqb x 0xA5) (eqb y 0x5A) e in 
 first-record : (o : List ℕ) → sound o ≡ true → CaptureRecord (take (recordLength o) o)
 unfolding sound
 first-record o e =
-    record-found o (both (beginsRight o) (eqb (length o) (recordLength o) || marked (drop (recordLength o) o)) e .0) (sound-inside o e)
+    record-found o (both (beginsRight o) (eqb (length o) (recordLength o) || hasMark (drop (recordLength o) o)) e .0) (sound-inside o e)
 
 pub sound-only-so : (o : List ℕ) → sound o ≡ true → SoundAt o
 unfolding sound
 sound-only-so o e =
     let n = recordLength o in
-    let f = both (beginsRight o) (eqb (length o) n || marked (drop n o)) e .1 in
+    let f = both (beginsRight o) (eqb (length o) n || hasMark (drop n o)) e .1 in
     record {
       captured = take n o;
       rest = drop n o;
@@ -88,8 +88,8 @@ salvaged-record {r} {rest} c e =
     salvaged-sound (r ++ rest) (sound-before c e) ∙ rw (record-head c rest .1, take-append-seam r rest, drop-append-seam r rest)
 
 starts-with : {r : List ℕ} → CaptureRecord r → (rest : List ℕ) → EndOrMark (r ++ rest)
-starts-with (userData own l) rest = nextMark (1 ∷ length own ∷ own ++ rest)
-starts-with (page own l) rest = nextMark (2 ∷ 88 ∷ own ++ rest)
+starts-with (inUserData own l) rest = nextMark (1 ∷ length own ∷ own ++ rest)
+starts-with (inPage own l) rest = nextMark (2 ∷ 88 ∷ own ++ rest)
 
 starts : (records : List (List ℕ)) → EveryRecord CaptureRecord records → EndOrMark (concat records)
 starts [] e = fileEnd
@@ -156,8 +156,8 @@ as-file : (at : ℕ) (o p c : List ℕ) (runs : List SkippedRun) → o ≡ p →
 as-file at o p c runs e d = rw e d
 
 record-long : {r : List ℕ} → CaptureRecord r → 0 < length r
-record-long (userData own l) = omega arith
-record-long (page own l) = omega arith
+record-long (inUserData own l) = omega arith
+record-long (inPage own l) = omega arith
 
 module _ (n at : ℕ) (x : ℕ) (o : List ℕ) (l : length (x ∷ o) ≤ suc n) (ih : (at : ℕ) (q : List ℕ) → length q ≤ n → Some at q) where
   with-record : SoundAt (x ∷ o) → Some at (x ∷ o)

@@ -23,7 +23,7 @@ use Rattle.slots.specs.Slots.{mostSlots, noKey, slotAt, opened, withPart, toFro
 use Rattle.slots.specs.FrontLaws.{front-here, front-there, freed-here, freed-there}
 use Rattle.formed.specs.Laws.{Formed, fresh-slot, array-holds}
 use Rattle.beats.specs.Beats.{AfterBeat, slotsAfterBeat, afterBeat, beat}
-use Rattle.beats.specs.Laws.{Beaten, free, drops, stays, beaten?, beat-at}
+use Rattle.beats.specs.Laws.{Beaten, was-free, is-dropped, is-older, beaten?, beat-at}
 use Rattle.series.specs.Cells.{joinedOctets}
 use Rattle.series.specs.Taking.{State, After, state, refuse, handOut, Step, acted, step, takePart, taken, unfit}
 use Rattle.series.specs.CaseLaws.{Case, other-total, other-octets, held-so, last, more, takes-free, displaces, case-of}
@@ -72,9 +72,9 @@ fit-beat : (limit : ℕ) (xs : List Slot) → Fit xs → Fit (slotsAfterBeat lim
 fit-beat limit xs fit j m = subst (λ (y : Slot). KeyFits (y .key)) (sym (beat-at limit xs j)) (go (beaten? limit (slotAt xs j)))
   where
     go : Beaten limit (slotAt xs j) → KeyFits (afterBeat limit (slotAt xs j) .key)
-    go (free z r e) = subst (λ (y : Slot). KeyFits (y .key)) (sym e) (fit j m)
-    go (drops u l r e) = subst (λ (y : Slot). KeyFits (y .key)) (sym e) free-fits
-    go (stays u l r e) = subst (λ (y : Slot). KeyFits (y .key)) (sym e) (fit j m)
+    go (was-free z r e) = subst (λ (y : Slot). KeyFits (y .key)) (sym e) (fit j m)
+    go (is-dropped u l r e) = subst (λ (y : Slot). KeyFits (y .key)) (sym e) free-fits
+    go (is-older u l r e) = subst (λ (y : Slot). KeyFits (y .key)) (sym e) (fit j m)
 
 pub fit-fresh : (n : ℕ) (k : Kind) → Fit (freshRecord n k .slots)
 fit-fresh n k j m = subst (λ (y : Slot). KeyFits (y .key)) (sym (fresh-slot n k j m)) free-fits

@@ -26,7 +26,7 @@ use Rattle.packet.specs.Laws.{readable-formed}
 use Rattle.report.specs.Reporting.{statusOf, announcesAnother}
 use Rattle.gateway.specs.Gateway.{sentCommand, sameCommand, awaited, zeroCommand, noCommands, among, twiceAmong, unfitTable, allBut, withCommand, withoutCommand, answeredBy, Fate, fateBy, Settled, settled, orStays, commandSent, responseCame}
 use Rattle.demands.specs.Runs.{Slots}
-use Rattle.demands.specs.Gateway.{commandAt, FitCommands, Waits, UnfitCommands, SendsOrRefuses, ClosesOrRefuses, TableLeft, Agree, PastCount, Event, send, respond, Reply, isSent, isClosed, isWaiting, isRefused, sentReply, cameReply, replyTo, leftBy, tableAfter, replies, sentIn, closedIn, Balanced, sends, closesIt, closedSince, sentAndOpen, HoldsExactly, AlwaysFit, FromAir, ExampleHistory, OutstandingCommands}
+use Rattle.demands.specs.Gateway.{commandAt, FitCommands, Waits, UnfitCommands, SendsOrRefuses, ClosesOrRefuses, TableLeft, Agree, PastCount, TableCall, send, respond, Reply, isSent, isClosed, isWaiting, isRefused, sentReply, cameReply, replyTo, tableLeft, tableAfter, replies, sentIn, closedIn, Balanced, sends, closesIt, closedSince, sentAndOpen, HoldsExactly, AlwaysFit, FromAir, ExampleHistory, OutstandingCommands}
 use Rattle.demands.proofs.Refusing.{still-refused}
 use Rattle.demands.proofs.Reports.{formed-size, fixed-is, status-is}
 use Rattle.demands.proofs.Delivery.{messages-delivered}
@@ -333,7 +333,7 @@ data Deed (t : Outstanding) : Reply → Outstanding → Type 0 where
   waits-on : (c : SentCommand) → Deed t (isWaiting c) t
   refuses : (n : ℕ) → Deed t (isRefused n) t
 
-send-deed : (t : Outstanding) (c : SentCommand) → Deed t (replyTo t (send c)) (leftBy t (send c))
+send-deed : (t : Outstanding) (c : SentCommand) → Deed t (replyTo t (send c)) (tableLeft t (send c))
 unfolding commandSent
 send-deed t c = go (unfitTable t) (among c (awaited t)) (leb 8 (t .count)) refl refl
   where
@@ -345,7 +345,7 @@ send-deed t c = go (unfitTable t) (among c (awaited t)) (leb 8 (t .count)) refl 
     go false false true h k = refuses 21
     go false false false h k = puts c h (leb-false 8 (t .count) k)
 
-respond-deed : (t : Outstanding) (sender : ℕ) (p : List ℕ) → Deed t (replyTo t (respond sender p)) (leftBy t (respond sender p))
+respond-deed : (t : Outstanding) (sender : ℕ) (p : List ℕ) → Deed t (replyTo t (respond sender p)) (tableLeft t (respond sender p))
 unfolding responseCame
 respond-deed t sender p =
     go (unfitTable t) (wellFormed Response p) (ltb mostOctets (length p)) (among c (awaited t)) (announcesAnother (statusOf p)) refl
@@ -363,7 +363,7 @@ respond-deed t sender p =
     go false true false true true h = waits-on c
     go false true false true false h = takes c h
 
-deed-of : (t : Outstanding) (e : Event) → Deed t (replyTo t e) (leftBy t e)
+deed-of : (t : Outstanding) (e : TableCall) → Deed t (replyTo t e) (tableLeft t e)
 deed-of t (send c) = send-deed t c
 deed-of t (respond sender p) = respond-deed t sender p
 
@@ -391,9 +391,9 @@ empty-good : Good noCommands
 unfolding twiceAmong
 empty-good = record { there = refl; few = omega arith; once = refl }
 
-run-good : (t : Outstanding) → Good t → (es : List Event) → Good (tableAfter t es)
+run-good : (t : Outstanding) → Good t → (es : List TableCall) → Good (tableAfter t es)
 run-good t g [] = g
-run-good t g (e ∷ es) = run-good (leftBy t e) (deed-good t g (replyTo t e) (leftBy t e) (deed-of t e)) es
+run-good t g (e ∷ es) = run-good (tableLeft t e) (deed-good t g (replyTo t e) (tableLeft t e) (deed-of t e)) es
 
 sent-first : (r : Reply) (rs : List Reply) → sentIn (r ∷ rs) ≡ sentIn (r ∷ []) + sentIn rs
 sent-first (isSent c) rs = omega arith
@@ -407,21 +407,21 @@ closed-first (isClosed c) rs = omega arith
 closed-first (isWaiting c) rs = omega arith
 closed-first (isRefused n) rs = omega arith
 
-run-count : (t : Outstanding) → Good t → (es : List Event) → sentIn (replies t es) + t .count ≡ closedIn (replies t es) + tableAfter t es .count
+run-count : (t : Outstanding) → Good t → (es : List TableCall) → sentIn (replies t es) + t .count ≡ closedIn (replies t es) + tableAfter t es .count
 run-count t g [] = refl
 run-count t g (e ∷ es) =
     let r = replyTo t e in
-    let d = leftBy t e in
+    let d = tableLeft t e in
     let step = deed-count t g r d (deed-of t e) in
     let later = run-count d (deed-good t g r d (deed-of t e)) es in
     omega (arith, sent-first r (replies d es), closed-first r (replies d es), step, later)
 
-run-among : (t : Outstanding) → Good t → (es : List Event) (c : SentCommand)
+run-among : (t : Outstanding) → Good t → (es : List TableCall) (c : SentCommand)
     → among c (awaited (tableAfter t es)) ≡ (among c (awaited t) && not (closedSince c (replies t es))) || sentAndOpen c (replies t es)
 run-among t g [] c = same-left (among c (awaited t))
 run-among t g (e ∷ es) c =
     let r = replyTo t e in
-    let d = leftBy t e in
+    let d = tableLeft t e in
     let rs = replies d es in
     run-among d (deed-good t g r d (deed-of t e)) es c
     ∙ ap (λ (b : Bool). (b && not (closedSince c rs)) || sentAndOpen c rs) (deed-among t g r d (deed-of t e) c)

@@ -26,7 +26,7 @@ use Rattle.slots.specs.Slots.{slotAt, opened, freeSlot, atRank, atCount, withPa
 use Rattle.formed.specs.Formed.{slotsFormed, recordFormed}
 use Rattle.formed.specs.Laws.{Formed, array-holds, formed-tells, formed-told}
 use Rattle.beats.specs.Beats.{AfterBeat, afterBeat, slotsAfterBeat, droppedBy, beaten, beat}
-use Rattle.beats.specs.Laws.{Beaten, free, drops, stays, beaten?, beat-at, stayed, beat-formed}
+use Rattle.beats.specs.Laws.{Beaten, was-free, is-dropped, is-older, beaten?, beat-at, stayed, beat-formed}
 use Rattle.series.specs.Cells.{cellsSize, joinedOctets}
 use Rattle.series.specs.Taking.{State, After, state, kept, packet, handOut, Step, acted, step, takePart, taken}
 use Rattle.series.specs.CaseLaws.{Lacks, Case, other-total, other-octets, held-so, last, more, takes-free, displaces, case-of}
@@ -37,7 +37,7 @@ use Rattle.demands.specs.Runs.{Slots, Call, Event, takes, beats, ProperC
 use Rattle.demands.specs.Wake as window
 use Rattle.demands.specs.Wake.{History, FewerThanLeast, counts, Start, begin, historyBy, follow, Fair}
 use Rattle.demands.specs.Reached.{key, halves, first, second, cells}
-use Rattle.demands.specs.Silence.{BeatRefuses, BeatDoes, Beating, Untouched, beatsWithin, silence, SilentGivenUp, MetInTime, MissedTooLate, OnTheLimit}
+use Rattle.demands.specs.Silence.{BeatRefuses, BeatDoes, Beating, NoTouch, beatsWithin, silence, SilentGivenUp, MetInTime, MissedTooLate, OnTheLimit}
 use Rattle.demands.proofs.Calls.{isPage, taking, fresh-free, Kept, Beat, no-beat, is-beat, beat?, beat-is, kept-beat, kept-by, kept-fresh}
 use Rattle.demands.proofs.Track.{key-there, used-before}
 use Rattle.demands.proofs.Along.{All, each, Along, each-with, store-run}
@@ -80,20 +80,20 @@ module _ (n : ℕ) (r : Record) (limit : ℕ) where
 
     -- a used slot whose count reaches the limit is free afterwards, each other one is a beat older, and a free one stays
     dropped : (i : ℕ) → 0 < slotAt xs i .rank → limit ≤ suc (slotAt xs i .beats) → Beaten limit (slotAt xs i) → afterBeat limit (slotAt xs i) ≡ freeSlot
-    dropped i u l (free z q e) = absurd (omega arith)
-    dropped i u l (drops v m q e) = e
-    dropped i u l (stays v m q e) = absurd (omega arith)
+    dropped i u l (was-free z q e) = absurd (omega arith)
+    dropped i u l (is-dropped v m q e) = e
+    dropped i u l (is-older v m q e) = absurd (omega arith)
 
     older : (i : ℕ) → 0 < slotAt xs i .rank → suc (slotAt xs i .beats) < limit → Beaten limit (slotAt xs i)
         → afterBeat limit (slotAt xs i) ≡ atCount (suc (slotAt xs i .beats)) (slotAt xs i)
-    older i u l (free z q e) = absurd (omega arith)
-    older i u l (drops v m q e) = absurd (omega arith)
-    older i u l (stays v m q e) = e
+    older i u l (was-free z q e) = absurd (omega arith)
+    older i u l (is-dropped v m q e) = absurd (omega arith)
+    older i u l (is-older v m q e) = e
 
     still : (i : ℕ) → slotAt xs i .rank ≡ 0 → Beaten limit (slotAt xs i) → afterBeat limit (slotAt xs i) ≡ slotAt xs i
-    still i y (free z q e) = e
-    still i y (drops v m q e) = absurd (omega arith)
-    still i y (stays v m q e) = absurd (omega arith)
+    still i y (was-free z q e) = e
+    still i y (is-dropped v m q e) = absurd (omega arith)
+    still i y (is-older v m q e) = absurd (omega arith)
 
     does : BeatDoes n r limit
     does = record {
@@ -287,7 +287,7 @@ module _ (n : ℕ) (pos : Slots n) (k : Kind) (K : Key) (limit : ℕ) where
           rw e (subst (λ (x : Store). Old (cond (leb l limit) (suc m) m) (x .rec .slots)) (sym (beat-is n pos k st w l z)) (older (leb l limit) refl))
 
   -- ---- any list of events
-  old-run : (events : List Event) (m : ℕ) (st : Store) → Kept n k st → Each Proper events → Untouched n k K st events → Old m (st .rec .slots)
+  old-run : (events : List Event) (m : ℕ) (st : Store) → Kept n k st → Each Proper events → NoTouch n k K st events → Old m (st .rec .slots)
       → Old (beatsWithin limit events + m) (run n st events .rec .slots)
   old-run [] m st w ps quiet old = let e : m ≡ 0 + m = omega arith in subst (λ (q : ℕ). Old q (st .rec .slots)) e old
   old-run (takes c ∷ events) m st w ps quiet old =

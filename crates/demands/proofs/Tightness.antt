@@ -339,8 +339,8 @@ sent-back r = ap (λ (x : Sending). record { answer = x; outstanding = r .outsta
 
 closingOf : Outcome gateway.Fate → Closing
 closingOf (refused n) = closing.Refused (refusalOf n)
-closingOf (gives gateway.closed) = closing.Closed
-closingOf (gives gateway.waiting) = closing.Waiting
+closingOf (gives gateway.fateClosed) = closing.Closed
+closingOf (gives gateway.fateWaiting) = closing.Waiting
 
 closing-back : (r : Closing) → closingOf (gateway.toldClosing r) ≡ r
 unfolding closingOf

@@ -15,7 +15,7 @@ use Rattle.slots.specs.FrontLaws.{past}
 use Rattle.formed.specs.Formed.{mostBeats, heldCount, slotFormed}
 use Rattle.formed.specs.Laws.{Formed, slot-tells, slot-told, slot-count, free-slot-formed}
 use Rattle.beats.specs.Beats.{afterBeat, slotsAfterBeat}
-use Rattle.beats.specs.Laws.{Beaten, free, drops, stays, beaten?, beat-at, beat-length}
+use Rattle.beats.specs.Laws.{Beaten, was-free, is-dropped, is-older, beaten?, beat-at, beat-length}
 use Rattle.demands.specs.Runs.{Slots}
 use Rattle.demands.specs.Reachable.{KeyFits}
 use Rattle.demands.proofs.Away.{same-slot, free-is}
@@ -92,9 +92,9 @@ module _ (n : ℕ) (k : Kind) (xs : List Slot) (w : Formed n k xs) (fit : Fit xs
       unused j l z = go (beaten? 255 (fewer (slotAt xs j)))
         where
           go : Beaten 255 (fewer (slotAt xs j)) → afterBeat 255 (fewer (slotAt xs j)) ≡ slotAt xs j
-          go (free y r e) = e ∙ still-free j l z ∙ sym (free-is k (slotAt xs j) (slot-formed-at n k xs w j l) z)
-          go (drops u y r e) = absurd (omega arith)
-          go (stays u y r e) = absurd (omega arith)
+          go (was-free y r e) = e ∙ still-free j l z ∙ sym (free-is k (slotAt xs j) (slot-formed-at n k xs w j l) z)
+          go (is-dropped u y r e) = absurd (omega arith)
+          go (is-older u y r e) = absurd (omega arith)
 
       own : (j : ℕ) → j < n → Same (slotAt xs j .rank) 0 → afterBeat 255 (fewer (slotAt xs j)) ≡ slotAt xs j
       own j l (same f z) = unused j (omega (arith, w .high)) z
@@ -107,9 +107,9 @@ module _ (n : ℕ) (k : Kind) (xs : List Slot) (w : Formed n k xs) (fit : Fit xs
           low-count = slot-count k (slotAt xs j) (w .slots j l) (omega arith)
 
           go : Beaten 255 (fewer (slotAt xs j)) → afterBeat 255 (fewer (slotAt xs j)) ≡ slotAt xs j
-          go (free y r e) = absurd (ne y)
-          go (drops u y r e) = let z : 255 ≤ suc (pred (slotAt xs j .beats)) = y in absurd (omega (arith, some-count, low-count))
-          go (stays u y r e) = e ∙ same-slot (atCount (suc (pred (slotAt xs j .beats))) (fewer (slotAt xs j))) (slotAt xs j) refl (omega (arith, some-count)) refl refl refl refl
+          go (was-free y r e) = absurd (ne y)
+          go (is-dropped u y r e) = let z : 255 ≤ suc (pred (slotAt xs j .beats)) = y in absurd (omega (arith, some-count, low-count))
+          go (is-older u y r e) = e ∙ same-slot (atCount (suc (pred (slotAt xs j .beats))) (fewer (slotAt xs j))) (slotAt xs j) refl (omega (arith, some-count)) refl refl refl refl
 
   pub beat-before : Slots n → Before n k (younger xs) xs
   beat-before good = record {

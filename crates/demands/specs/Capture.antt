@@ -16,8 +16,8 @@ use Rattle.demands.specs.Lists.{concat}
 -- "a mark of two octets, A5 5A, before each record, then kind (1 user data, 2 page) and length, an octet each, and that many octets (kind 1: 0 to
 -- 140, kind 2: 88)"
 pub data CaptureRecord : List ℕ → Type 0 where
-  userData : (own : List ℕ) → length own ≤ 140 → CaptureRecord (0xA5 ∷ 0x5A ∷ 1 ∷ length own ∷ own)
-  page : (own : List ℕ) → length own ≡ 88 → CaptureRecord (0xA5 ∷ 0x5A ∷ 2 ∷ 88 ∷ own)
+  inUserData : (own : List ℕ) → length own ≤ 140 → CaptureRecord (0xA5 ∷ 0x5A ∷ 1 ∷ length own ∷ own)
+  inPage : (own : List ℕ) → length own ≡ 88 → CaptureRecord (0xA5 ∷ 0x5A ∷ 2 ∷ 88 ∷ own)
 
 -- "it ends at the file's end or where another mark stands": what is behind it
 pub data EndOrMark : List ℕ → Type 0 where

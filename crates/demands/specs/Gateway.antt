@@ -18,7 +18,7 @@ use Rattle.packet.specs.Told.{responseFields}
 use Rattle.arrival.specs.Keys.{referenceFits}
 use Rattle.series.specs.Calls.{message}
 use Rattle.split.specs.Splitting as split
-use Rattle.gateway.specs.Gateway.{sentCommand, sameCommand, awaited, zeroCommand, noCommands, among, withCommand, withoutCommand, answeredBy, Fate, closed, waiting, Settled, settled, commandSent, responseCame}
+use Rattle.gateway.specs.Gateway.{sentCommand, sameCommand, awaited, zeroCommand, noCommands, among, withCommand, withoutCommand, answeredBy, Fate, fateClosed, fateWaiting, Settled, settled, commandSent, responseCame}
 use Rattle.demands.specs.Runs.{Slots}
 use Rattle.demands.specs.SplitTaken.{keyUnder}
 use Rattle.demands.specs.Delivery.{Delivered}
@@ -63,11 +63,11 @@ pub record ClosesOrRefuses (sender : ℕ) (p : List ℕ) : Type 0 where
       → responseCame t sender p ≡ settled (refused 23) t
   pub waits : (t : Outstanding) → FitCommands t → (tar : Tar) (b : PlainResponse)
       → parsing Response false p ≡ gives (responseFields tar (response.Plain b)) → Waits (sentCommand sender tar (b .cntr)) t
-      → (b .status ≡ 0x0B) ⊎ (b .status ≡ 0x08) → responseCame t sender p ≡ settled (gives waiting) t
+      → (b .status ≡ 0x0B) ⊎ (b .status ≡ 0x08) → responseCame t sender p ≡ settled (gives fateWaiting) t
   pub closes : (t : Outstanding) → FitCommands t → (tar : Tar) (b : PlainResponse)
       → parsing Response false p ≡ gives (responseFields tar (response.Plain b)) → Waits (sentCommand sender tar (b .cntr)) t
       → (b .status ≡ 0x0B → ⊥) → (b .status ≡ 0x08 → ⊥)
-      → responseCame t sender p ≡ settled (gives closed) (withoutCommand t (sentCommand sender tar (b .cntr)))
+      → responseCame t sender p ≡ settled (gives fateClosed) (withoutCommand t (sentCommand sender tar (b .cntr)))
 
 -- ---- the table afterwards
 -- A new command stands behind those in use. Of a table whose entries in use are u, then the command, then v, those of u and v are left, in their
@@ -91,9 +91,9 @@ pub record PastCount (t s : Outstanding) : Type 0 where
 
 -- ---- histories
 -- a call: a command is sent, or a response comes from a sender
-pub data Event : Type 0 where
-  send : SentCommand → Event
-  respond : (sender : ℕ) (octets : List ℕ) → Event
+pub data TableCall : Type 0 where
+  send : SentCommand → TableCall
+  respond : (sender : ℕ) (octets : List ℕ) → TableCall
 
 -- what it is answered, and which command an accepted call is about
 pub data Reply : Type 0 where
@@ -107,26 +107,26 @@ sentReply c (gives x) = isSent c
 sentReply c (refused n) = isRefused n
 
 abbrev pub cameReply : SentCommand → Outcome Fate → Reply
-cameReply c (gives closed) = isClosed c
-cameReply c (gives waiting) = isWaiting c
+cameReply c (gives fateClosed) = isClosed c
+cameReply c (gives fateWaiting) = isWaiting c
 cameReply c (refused n) = isRefused n
 
-abbrev pub replyTo : Outstanding → Event → Reply
+abbrev pub replyTo : Outstanding → TableCall → Reply
 replyTo t (send c) = sentReply c (commandSent t c .0)
 replyTo t (respond sender p) = cameReply (answeredBy sender p) (responseCame t sender p .0)
 
-abbrev pub leftBy : Outstanding → Event → Outstanding
-leftBy t (send c) = commandSent t c .1
-leftBy t (respond sender p) = responseCame t sender p .1
+abbrev pub tableLeft : Outstanding → TableCall → Outstanding
+tableLeft t (send c) = commandSent t c .1
+tableLeft t (respond sender p) = responseCame t sender p .1
 
 -- each call gets the table that the one before it left
-abbrev pub tableAfter : Outstanding → List Event → Outstanding
+abbrev pub tableAfter : Outstanding → List TableCall → Outstanding
 tableAfter t [] = t
-tableAfter t (e ∷ es) = tableAfter (leftBy t e) es
+tableAfter t (e ∷ es) = tableAfter (tableLeft t e) es
 
-abbrev pub replies : Outstanding → List Event → List Reply
+abbrev pub replies : Outstanding → List TableCall → List Reply
 replies t [] = []
-replies t (e ∷ es) = replyTo t e ∷ replies (leftBy t e) es
+replies t (e ∷ es) = replyTo t e ∷ replies (tableLeft t e) es
 
 -- "sent and closed counted from the accepted calls"
 abbrev pub sentIn : List Reply → ℕ
@@ -145,7 +145,7 @@ closedIn (isRefused n ∷ rs) = closedIn rs
 
 -- "Over any history from an empty table, commands sent equal commands closed plus those waiting"
 abbrev pub Balanced : Type 0
-Balanced = (es : List Event) → sentIn (replies noCommands es) ≡ closedIn (replies noCommands es) + length (awaited (tableAfter noCommands es))
+Balanced = (es : List TableCall) → sentIn (replies noCommands es) ≡ closedIn (replies noCommands es) + length (awaited (tableAfter noCommands es))
 
 -- whether a reply says that this command was sent, and that it was closed
 abbrev pub sends : SentCommand → Reply → Bool
@@ -171,10 +171,10 @@ sentAndOpen c (r ∷ rs) = (sends c r && not (closedSince c rs)) || sentAndOpen 
 
 -- the table holds exactly the triples sent and not yet closed; it has each of them once, since it is never one that is refused 1
 abbrev pub HoldsExactly : Type 0
-HoldsExactly = (es : List Event) (c : SentCommand) → among c (awaited (tableAfter noCommands es)) ≡ sentAndOpen c (replies noCommands es)
+HoldsExactly = (es : List TableCall) (c : SentCommand) → among c (awaited (tableAfter noCommands es)) ≡ sentAndOpen c (replies noCommands es)
 
 abbrev pub AlwaysFit : Type 0
-AlwaysFit = (es : List Event) → FitCommands (tableAfter noCommands es)
+AlwaysFit = (es : List TableCall) → FitCommands (tableAfter noCommands es)
 
 -- ---- from parts over the air to the closed command
 -- A response that parses to this TAR and body is split into messages, of either width. Taken with a record of responses, in any order, they hand it
@@ -184,7 +184,7 @@ pub record ClosedFromAir (n : ℕ) (t : Outstanding) (sender : ℕ) (p : List �
       → Delivered n Response (keyUnder sender width reference) p (split.parts width (length p)) (split.partOctets width p)
       (λ number. message sender (split.userData Response width reference p number))
   pub closed-by : (output : List ℕ)
-      → responseCame t sender (take (length p) (p ++ drop (length p) output)) ≡ settled (gives closed) (withoutCommand t (sentCommand sender tar (b .cntr)))
+      → responseCame t sender (take (length p) (p ++ drop (length p) output)) ≡ settled (gives fateClosed) (withoutCommand t (sentCommand sender tar (b .cntr)))
 
 abbrev pub FromAir : ℕ → Type 0
 FromAir n =
@@ -200,7 +200,7 @@ command sender low = sentCommand sender (0xB0, 0x00, 0x10) (0, 0, 0, 0, low)
 abbrev answer : ℕ → ℕ → List ℕ
 answer low status = 0x00 ∷ 0x0B ∷ 0x0A ∷ 0xB0 ∷ 0x00 ∷ 0x10 ∷ 0 ∷ 0 ∷ 0 ∷ 0 ∷ low ∷ 0x00 ∷ status ∷ []
 
-abbrev pub exampleEvents : List Event
+abbrev pub exampleEvents : List TableCall
 exampleEvents =
     send (command 7 1) ∷ send (command 7 1) ∷ send (command 8 1) ∷ send (command 7 2) ∷ send (command 7 3) ∷ send (command 7 4)
     ∷ send (command 7 5) ∷ send (command 7 6) ∷ send (command 7 7)

@@ -47,8 +47,8 @@ Beating n =
 
 -- ---- silence
 -- Nothing touches the series of a key: no call with the key is answered "kept" or "held already".
-abbrev pub Untouched : ℕ → Kind → Key → Store → List Event → Type 0
-Untouched n k K st events = (u : List Event) (c : Call) (v : List Event) → events ≡ u ++ takes c ∷ v → (total number start : ℕ)
+abbrev pub NoTouch : ℕ → Kind → Key → Store → List Event → Type 0
+NoTouch n k K st events = (u : List Event) (c : Call) (v : List Event) → events ≡ u ++ takes c ∷ v → (total number start : ℕ)
     → read k (c .input) ≡ gives (part K total number start) → counts (outcome n (run n st u) c) ≡ false
 
 -- how many beats among them have a limit of 1 up to this one
@@ -68,7 +68,7 @@ pub record GivenUp (n : ℕ) (k : Kind) (K : Key) (st : Store) : Type 0 where
 abbrev pub SilentGivenUp : ℕ → Type 0
 SilentGivenUp n =
     (k : Kind) (K : Key) (cells : List ℕ) (earlier events : List Event) → length cells ≡ cellsSize n → Each Proper earlier → Each Proper events
-    → Untouched n k K (run n (fresh n k cells) earlier) events
+    → NoTouch n k K (run n (fresh n k cells) earlier) events
     → (limit : ℕ) → 0 < limit → limit ≤ beatsWithin limit events → GivenUp n k K (run n (run n (fresh n k cells) earlier) events)
 
 -- m beats in a row, with one limit

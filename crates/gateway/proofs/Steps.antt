@@ -20,7 +20,7 @@ use Rattle.types.specs.declared.Kind.the-variants.{Response}
 use Rattle.types.specs.Refusals.{Outcome, refused, gives, refuse_when_otherwise_, refusalNumber}
 use Rattle.packet.specs.Packets.{cpl, mostOctets, wellFormed}
 use Rattle.report.specs.Reporting.{statusOf, announcesAnother, responseAnnounces, toldAnnouncing}
-use Rattle.gateway.specs.Gateway.{sameCommand, awaited, zeroCommand, noCommands, among, twiceAmong, unfitTable, allBut, withCommand, answeredBy, Fate, closed, waiting, fateBy, Settled, settled, orStays, commandSent, responseCame}
+use Rattle.gateway.specs.Gateway.{sameCommand, awaited, zeroCommand, noCommands, among, twiceAmong, unfitTable, allBut, withCommand, answeredBy, Fate, fateClosed, fateWaiting, fateBy, Settled, settled, orStays, commandSent, responseCame}
 use Rattle.gateway.specs.Places.{commandPlace, takenOut}
 
 -- ---- commands
@@ -252,12 +252,12 @@ module _ (t : Outstanding) {B : Type 0} (f : SentCommand → B) (owned : length 
         → w ≡ orStays t (refuse 23 when not (among c (awaited t)) otherwise gives (fateBy a t c))
     matches-none l w h = h ∙ rw (absent few l)
 
-    pub matches-waiting : i < t .count → a ≡ true → (w : Settled Fate) → w ≡ settled (gives waiting) t
+    pub matches-waiting : i < t .count → a ≡ true → (w : Settled Fate) → w ≡ settled (gives fateWaiting) t
         → w ≡ orStays t (refuse 23 when not (among c (awaited t)) otherwise gives (fateBy a t c))
     matches-waiting l e w h = h ∙ rw (here few l, e)
 
     pub matches-closed : i < t .count → a ≡ false → (es : List SentCommand) → es ≡ takenOut i (t .count) (t .entries)
-        → settled (gives closed) (record { count = t .count - 1; entries = es }) ≡ orStays t (refuse 23 when not (among c (awaited t)) otherwise gives (fateBy a t c))
+        → settled (gives fateClosed) (record { count = t .count - 1; entries = es }) ≡ orStays t (refuse 23 when not (among c (awaited t)) otherwise gives (fateBy a t c))
     matches-closed l e es h =
         let q : es ≡ allBut c (awaited t) ++ (zeroCommand ∷ drop (t .count) (t .entries)) =
         h ∙ rw place (out-is c (t .count) (t .entries) (omega (arith, length-map (t .entries) f)) (omega arith)) in

@@ -82,13 +82,13 @@ answeredBy sender p = sentCommand sender (responseTar p) (responseCntr p)
 
 -- what a response does to its command
 pub data Fate : Type 0 where
-  closed : Fate
-  waiting : Fate
+  fateClosed : Fate
+  fateWaiting : Fate
 
 -- "A plain response closes the one that equals it in all three; status 0B or 08 leaves it waiting for the complete response": whether its status
 -- is one of these is [12]'s definition
 abbrev pub fateBy : Bool → Outstanding → SentCommand → Fate × Outstanding
-fateBy announces t c = cond announces (waiting, t) (closed, withoutCommand t c)
+fateBy announces t c = cond announces (fateWaiting, t) (fateClosed, withoutCommand t c)
 
 -- ---- the calls
 -- the answer, and the table as it is afterwards
@@ -127,6 +127,6 @@ toldSending sending.the-variants.Sent = gives tt
 toldSending (sending.the-variants.Refused r) = refused (refusalNumber r)
 
 abbrev pub toldClosing : closing.Closing → Outcome Fate
-toldClosing closing.the-variants.Closed = gives closed
-toldClosing closing.the-variants.Waiting = gives waiting
+toldClosing closing.the-variants.Closed = gives fateClosed
+toldClosing closing.the-variants.Waiting = gives fateWaiting
 toldClosing (closing.the-variants.Refused r) = refused (refusalNumber r)

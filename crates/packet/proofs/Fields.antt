@@ -24,7 +24,7 @@ use Rattle.types.specs.declared.ResponseBody.the-variants as response
 use Rattle.types.specs.Refusals.{refused, gives}
 use Rattle.packet.specs.Packets.{before, least, within, fieldsBehind, cipherBit, differ, againstBits, againstCheck, Parsed, plainParsed, cipheredParsed, measured, parsingBehind}
 use Rattle.packet.specs.Told.{tarOctets, clearOctets, counterOctets, commandFields, responseFields}
-use Rattle.packet.specs.Laws.{Inside, within-facts, before-least, least-most}
+use Rattle.packet.specs.Laws.{FieldsWithin, within-facts, before-least, least-most}
 
 -- ---- octets, and the octets from a place on
 pub octet-none : (o : List ℕ) (at : ℕ) → length o ≤ at → 0 ≡ getD o at 0
@@ -105,19 +105,19 @@ unfolding from
 clear-at p t l e = rw (e, ← run-next p 0 4 3, ← from-take p 0 4 (omega arith))
 
 -- the counters, and one or two octets behind them
-pub command-counters : (p : List ℕ) (h : ℕ) (n : Cntr) → Inside Command h p → counterOctets n [] ≡ take 5 (drop 7 p)
+pub command-counters : (p : List ℕ) (h : ℕ) (n : Cntr) → FieldsWithin Command h p → counterOctets n [] ≡ take 5 (drop 7 p)
     → counterOctets n (getD p 12 0 ∷ []) ≡ take 6 (drop 7 p)
 unfolding from
 command-counters p h n l e = ap (λ (x : List ℕ). x ++ (getD p 12 0 ∷ [])) e ∙ rw (← run-next p 7 5 1, ← from-take p 12 1 (omega arith))
 
-pub response-counters : (p : List ℕ) (h : ℕ) (n : Cntr) → Inside Response h p → counterOctets n [] ≡ take 5 (drop 3 p)
+pub response-counters : (p : List ℕ) (h : ℕ) (n : Cntr) → FieldsWithin Response h p → counterOctets n [] ≡ take 5 (drop 3 p)
     → counterOctets n (getD p 8 0 ∷ getD p 9 0 ∷ []) ≡ take 7 (drop 3 p)
 unfolding from
 response-counters p h n l e =
     ap (λ (x : List ℕ). x ++ (getD p 8 0 ∷ getD p 9 0 ∷ [])) e ∙ rw (← run-next p 3 5 2, ← from-take p 8 2 (omega arith))
 
 -- the lengths of a plain body's parts, and of the opaque octets
-module _ (k : Kind) (h : ℕ) (p : List ℕ) (f : Inside k h p) where
+module _ (k : Kind) (h : ℕ) (p : List ℕ) (f : FieldsWithin k h p) where
   pub before-inside : (b : ℕ) → b ≡ before k → b ≤ length p
   before-inside b e = omega (arith, before-least k)
 
@@ -132,7 +132,7 @@ module _ (k : Kind) (h : ℕ) (p : List ℕ) (f : Inside k h p) where
   opaque-measured x l o e g i =
       let n : length (drop (before k) p) ≡ o = simp length-drop (omega arith) in rw (e, g, n)
 
-module _ (p : List ℕ) (h : ℕ) (f : Inside Command h p) (x : Clear) (e : clearOctets x ≡ take 7 p) (c : Bool) where
+module _ (p : List ℕ) (h : ℕ) (f : FieldsWithin Command h p) (x : Clear) (e : clearOctets x ≡ take 7 p) (c : Bool) where
   pub command-opaque : (b : Opaque) → c ≡ true → (b .«header_length» ≡ h) × (b .«opaque_length» ≡ length p - 7)
       → commandFields x (command.Ciphered b) ≡ measured (fieldsBehind Command c h p)
   command-opaque b t i = rw t (opaque-measured Command h p f (clearOctets x) (b .«header_length») (b .«opaque_length») e (i .0) (i .1))
@@ -145,7 +145,7 @@ module _ (p : List ℕ) (h : ℕ) (f : Inside Command h p) (x : Clear) (e : clea
       (plain-measured Command h p f (clearOctets x) (counterOctets (b .cntr) (b .pcntr ∷ [])) (b .«check_length») (b .«data_length»)
       (runs p 7 6 (clearOctets x) (counterOctets (b .cntr) (b .pcntr ∷ [])) e (i .0)) (rw (← g) (i .1 .0)) (rw (← g) (i .1 .1)))
 
-module _ (p : List ℕ) (h : ℕ) (f : Inside Response h p) (x : Tar) (e : tarOctets x ≡ take 3 (drop 0 p)) (c : Bool) where
+module _ (p : List ℕ) (h : ℕ) (f : FieldsWithin Response h p) (x : Tar) (e : tarOctets x ≡ take 3 (drop 0 p)) (c : Bool) where
   pub response-opaque : (b : Opaque) → c ≡ true → (b .«header_length» ≡ h) × (b .«opaque_length» ≡ length p - 3)
       → responseFields x (response.Ciphered b) ≡ measured (fieldsBehind Response c h p)
   response-opaque b t i = rw t (opaque-measured Response h p f (tarOctets x) (b .«header_length») (b .«opaque_length») e (i .0) (i .1))
@@ -159,7 +159,7 @@ module _ (p : List ℕ) (h : ℕ) (f : Inside Response h p) (x : Tar) (e : tarOc
       (runs p 3 7 (tarOctets x) (counterOctets (b .cntr) (b .pcntr ∷ b .status ∷ [])) e (i .0)) (rw (← g) (i .1 .0)) (rw (← g) (i .1 .1)))
 
 -- a header as long as another is inside where that is
-pub inside-same : (k : Kind) (h w : ℕ) (o : List ℕ) → Inside k h o → w ≡ h → Inside k w o
+pub inside-same : (k : Kind) (h w : ℕ) (o : List ℕ) → FieldsWithin k h o → w ≡ h → FieldsWithin k w o
 inside-same k h w o f e = rw e f
 
 -- ---- reading
@@ -169,7 +169,7 @@ module _ (k : Kind) (c : Bool) (h : ℕ) (o : List ℕ) (n : ℕ) (s : n ≡ h) 
   outside-refused t = rw (← s, ← e, not-true w t)
 
   module _ (t : not w ≡ false) where
-    pub inside-facts : Inside k h o
+    pub inside-facts : FieldsWithin k h o
     inside-facts = rw s at (within-facts k n o (sym e ∙ not-false w t))
 
     module _ (a : Bool) (b : a ≡ againstCheck k (fieldsBehind k c n o)) where

@@ -33,11 +33,11 @@ least-most Response = omega arith
 
 -- ---- behind the lengths
 -- what a header within the octets behind the lengths is
-pub record Inside (k : Kind) (header : ℕ) (o : List ℕ) : Type 0 where
+pub record FieldsWithin (k : Kind) (header : ℕ) (o : List ℕ) : Type 0 where
   pub room : least k ≤ header
   pub fits : header ≤ length o
 
-pub within-facts : (k : Kind) (h : ℕ) (o : List ℕ) → within k h o ≡ true → Inside k h o
+pub within-facts : (k : Kind) (h : ℕ) (o : List ℕ) → within k h o ≡ true → FieldsWithin k h o
 within-facts k h o e =
     let (r, f) = both (leb (least k) h) (leb h (length o)) e in
     let r′ = leb-true (least k) h r in
@@ -239,7 +239,7 @@ against-again Command c h o l s =
 against-again Response c h o l s = refl
 
 -- the fields of octets that were read are refused nothing in writing, whatever carries them, and are the same octets behind the lengths
-module _ (k : Kind) (c : Bool) (h : ℕ) (o : List ℕ) (f : Inside k h o) where
+module _ (k : Kind) (c : Bool) (h : ℕ) (o : List ℕ) (f : FieldsWithin k h o) where
   pub fitting-again : {A : Type 0} (r : Outcome A) → h ≤ 255 → againstCheck k (fieldsBehind k c h o) ≡ false → (k ≡ Command → c ≡ cipheredBehind o)
       → (long : Bool) → long ≡ false → fitting k (fieldsBehind k c h o) long r ≡ r
   fitting-again r b a s long l = rw (against-again k c h o (f .room) s, misfit-again k c h o (f .room) b (f .fits), a, l)

@@ -22,7 +22,7 @@ ghost use Prim.Native.Nat.{_+_, _-_, _≤_};
 ghost use lib.ListN.{length, getD, take, drop};
 ghost use Rattle.packet.specs.Packets.{before, least, within, cipheredBehind, fieldsBehind, measured, againstCheck, parsingBehind};
 ghost use Rattle.packet.specs.Told.{tarOctets, clearOctets, counterOctets, commandFields, responseFields, toldCommand, toldResponse};
-ghost use Rattle.packet.specs.Laws.{Inside};
+ghost use Rattle.packet.specs.Laws.{FieldsWithin};
 
 // ---- octets
 // The octet at a place; past the end, 0.
@@ -139,7 +139,7 @@ fn data_length(behind: &[u8], header: usize) -> usize
 
 // A ciphered body.
 fn opaque_body(kind: Kind, header: u8, behind: &[u8]) -> Opaque
-    requires { ⌜ Inside kind header (now behind) ⌝ }
+    requires { ⌜ FieldsWithin kind header (now behind) ⌝ }
     ensures { λ r. ⌜ (r .«header_length» ≡ header) × (r .«opaque_length» ≡ length (now (behind .entry)) - before kind) ⌝ }
 {
     Opaque {
@@ -150,7 +150,7 @@ fn opaque_body(kind: Kind, header: u8, behind: &[u8]) -> Opaque
 
 // A plain command from its counter on.
 fn plain_command(header: usize, behind: &[u8]) -> PlainCommand
-    requires { ⌜ Inside Kind.Command header (now behind) ⌝ }
+    requires { ⌜ FieldsWithin Kind.Command header (now behind) ⌝ }
     ensures { λ r. ⌜ counterOctets (r .cntr) (r .pcntr ∷ []) ≡ take 6 (drop 7 (now (behind .entry))) ⌝ }
     ensures { λ r. ⌜ (r .«check_length» ≡ header - 13) × (r .«data_length» ≡ length (now (behind .entry)) - header) ⌝ }
 {
@@ -165,7 +165,7 @@ fn plain_command(header: usize, behind: &[u8]) -> PlainCommand
 
 // A plain response from its counter on.
 fn plain_response(header: usize, behind: &[u8]) -> PlainResponse
-    requires { ⌜ Inside Kind.Response header (now behind) ⌝ }
+    requires { ⌜ FieldsWithin Kind.Response header (now behind) ⌝ }
     ensures { λ r. ⌜ counterOctets (r .cntr) (r .pcntr ∷ r .status ∷ []) ≡ take 7 (drop 3 (now (behind .entry))) ⌝ }
     ensures { λ r. ⌜ (r .«check_length» ≡ header - 10) × (r .«data_length» ≡ length (now (behind .entry)) - header) ⌝ }
 {
@@ -181,7 +181,7 @@ fn plain_response(header: usize, behind: &[u8]) -> PlainResponse
 
 // The fields of a command whose header is within the octets, and whose body is ciphered or not.
 fn command_fields(ciphered: bool, header: u8, behind: &[u8]) -> Command
-    requires { ⌜ Inside Kind.Command header (now behind) ⌝ }
+    requires { ⌜ FieldsWithin Kind.Command header (now behind) ⌝ }
     ensures { λ r. ⌜ commandFields (r .clear) (r .body) ≡ measured (fieldsBehind Kind.Command ciphered header (now (behind .entry))) ⌝ }
 {
     let clear = clear_of(behind);
@@ -202,7 +202,7 @@ fn command_fields(ciphered: bool, header: u8, behind: &[u8]) -> Command
 
 // The fields of a response whose header is within the octets, and whose body is ciphered if the caller says so.
 fn response_fields(ciphered: bool, header: u8, behind: &[u8]) -> Response
-    requires { ⌜ Inside Kind.Response header (now behind) ⌝ }
+    requires { ⌜ FieldsWithin Kind.Response header (now behind) ⌝ }
     ensures { λ r. ⌜ responseFields (r .tar) (r .body) ≡ measured (fieldsBehind Kind.Response ciphered header (now (behind .entry))) ⌝ }
 {
     let tar = tar_at(behind, 0);

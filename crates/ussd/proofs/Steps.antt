@@ -24,7 +24,7 @@ use Rattle.packet.specs.Judging.{toldJudged, andThen, shown-by}
 use Rattle.build.specs.Within.{againstOctet, outside, ruled, toldRuling}
 use Rattle.build.specs.Laws.{ruled-then, allowed, against-is}
 use Rattle.ussd.specs.Ussd.{lengthOctets, lengthSize, lengthValue, lengthFormed, fromCpl, fromChl, umBehind, umChl, umStart, umFormed, cipheredUm, umFields, addressed, readableUssd, readUssd, shownUssdData, shownUssdCheck, shownUssdOpaque, codedFrom, umFrom, umOf, writingUssd, writtenUssd, isUm, ussdChecksumOctets, ussdChecksummed}
-use Rattle.ussd.specs.Within.{lengthsRight, opened, leadOctets, overUm, triedUssd}
+use Rattle.ussd.specs.Within.{lengthsRight, stringOpened, leadOctets, overUm, triedUssd}
 use Rattle.ussd.specs.Laws.{Coded, one, two, coded, behind-start, um-within}
 
 -- ---- lengths
@@ -80,29 +80,29 @@ start-in s u m e f = rw (f .0, e)
 
 -- what is asked first: 2, 5, 9
 module _ (pfi dcs : ℕ) (s : List ℕ) (o : Outcome ℕ) where
-  pub long-refused : 160 < length s → refused 2 ≡ opened pfi dcs s o
+  pub long-refused : 160 < length s → refused 2 ≡ stringOpened pfi dcs s o
   long-refused l = rw (lt-ltb 160 (length s) l)
 
   module _ (l : length s ≤ 160) (a : Bool) (e : a ≡ addressed pfi dcs s) where
-    pub other-refused : not a ≡ true → refused 5 ≡ opened pfi dcs s o
+    pub other-refused : not a ≡ true → refused 5 ≡ stringOpened pfi dcs s o
     other-refused t = rw (le-ltb 160 (length s) l, ← e, not-true a t)
 
     module _ (t : not a ≡ false) (u : List ℕ) (f : u ≡ drop 1 s) (w : Bool) (g : w ≡ umFormed u) where
-      pub unformed-refused : not w ≡ true → refused 9 ≡ opened pfi dcs s o
+      pub unformed-refused : not w ≡ true → refused 9 ≡ stringOpened pfi dcs s o
       unformed-refused i = let h : umFormed (drop 1 s) ≡ w = rw (← f) (sym g) in rw (le-ltb 160 (length s) l, ← e, not-false a t, h, not-true w i)
 
-      opens : not w ≡ false → o ≡ opened pfi dcs s o
+      opens : not w ≡ false → o ≡ stringOpened pfi dcs s o
       opens i = let h : umFormed (drop 1 s) ≡ w = rw (← f) (sym g) in rw (le-ltb 160 (length s) l, ← e, not-false a t, h, not-false w i)
 
 module _ (pfi dcs : ℕ) (s : List ℕ) (l : length s ≤ 160) (a : Bool) (e : a ≡ addressed pfi dcs s) (t : not a ≡ false) (u : List ℕ) (f : u ≡ drop 1 s) (w : Bool)
     (g : w ≡ umFormed u) (i : not w ≡ false) where
-  pub header-opened : (n m : ℕ) → n ≡ umChl u → m ≡ n → gives m ≡ opened pfi dcs s (gives (umChl (drop 1 s)))
+  pub header-opened : (n m : ℕ) → n ≡ umChl u → m ≡ n → gives m ≡ stringOpened pfi dcs s (gives (umChl (drop 1 s)))
   header-opened n m p q =
       let r : m ≡ umChl (drop 1 s) = q ∙ p ∙ rw f in rw r (opens pfi dcs s (gives (umChl (drop 1 s))) l a e t u f w g i)
 
 -- what was asked first, and then what follows
-module _ (pfi dcs : ℕ) (s : List ℕ) (j : Judged) (e : toldJudged j ≡ opened pfi dcs s (gives (umChl (drop 1 s)))) where
-  opened-then : {A : Type 0} (o : Outcome A) → opened pfi dcs s o ≡ andThen (opened pfi dcs s (gives (umChl (drop 1 s)))) o
+module _ (pfi dcs : ℕ) (s : List ℕ) (j : Judged) (e : toldJudged j ≡ stringOpened pfi dcs s (gives (umChl (drop 1 s)))) where
+  opened-then : {A : Type 0} (o : Outcome A) → stringOpened pfi dcs s o ≡ andThen (stringOpened pfi dcs s (gives (umChl (drop 1 s)))) o
   opened-then o = go (ltb 160 (length s)) (addressed pfi dcs s) (umFormed (drop 1 s))
     where
       go : (l a w : Bool) → (refuse 2 when l otherwise refuse 5 when not a otherwise refuse 9 when not w otherwise o)
@@ -113,7 +113,7 @@ module _ (pfi dcs : ℕ) (s : List ℕ) (j : Judged) (e : toldJudged j ≡ opene
       go false true true = refl
 
   module _ (r : Refusal) (t : j ≡ judged.Refused r) where
-    opened-refused : {A : Type 0} (o : Outcome A) → refused (refusalNumber r) ≡ opened pfi dcs s o
+    opened-refused : {A : Type 0} (o : Outcome A) → refused (refusalNumber r) ≡ stringOpened pfi dcs s o
     opened-refused o = rw (opened-then o, ← e, t)
 
     pub judge-refused : (o : Outcome ℕ) → refused (refusalNumber r) ≡ readableUssd pfi dcs s o
@@ -124,7 +124,7 @@ module _ (pfi dcs : ℕ) (s : List ℕ) (j : Judged) (e : toldJudged j ≡ opene
     read-refused = opened-refused (refuse 15 when againstCheck Command (umFields (drop 1 s)) otherwise gives (measured (umFields (drop 1 s))))
 
   module _ (h : ℕ) (t : j ≡ judged.Readable h) where
-    opened-on : {A : Type 0} (o : Outcome A) → o ≡ opened pfi dcs s o
+    opened-on : {A : Type 0} (o : Outcome A) → o ≡ stringOpened pfi dcs s o
     opened-on o = sym (rw (opened-then o, ← e, t))
 
     opened-facts : (umFormed (drop 1 s) ≡ true) × (h ≡ umChl (drop 1 s))

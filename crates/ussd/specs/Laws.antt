@@ -14,7 +14,7 @@ use Rattle.octets.specs.Tests.{both, both-hold, clash}
 use Rattle.types.specs.declared.Kind.the-variants.{Command}
 use Rattle.types.specs.Refusals.{Outcome, gives, refuse_when_otherwise_}
 use Rattle.packet.specs.Packets.{least, within, Fields, plain, fieldsBehind, cipherBit, cipheredBehind, againstCheck, headerLength, behind, isCiphered, misfit, runsFrom}
-use Rattle.packet.specs.Laws.{Inside, within-told, RightLength, Fitted, fitting-gives, header-right, behind-fields, differ-none, fitting-again, same-header, same-behind}
+use Rattle.packet.specs.Laws.{FieldsWithin, within-told, RightLength, Fitted, fitting-gives, header-right, behind-fields, differ-none, fitting-again, same-header, same-behind}
 use Rattle.ussd.specs.Ussd.{lengthOctets, lengthSize, lengthValue, lengthFormed, fromCpl, fromChl, umBehind, umCpl, umChl, umStart, umFormed, cipheredUm, umFields, addressed, readableUssd, codedFrom, umFrom, umOf, writingUssd, isUm, ussdChecksumOctets}
 
 -- ---- lengths
@@ -103,7 +103,7 @@ um-facts um e =
     }
 
 -- its header is within what is behind its lengths
-pub um-inside : (um : List ℕ) → umFormed um ≡ true → Inside Command (umChl um) (umBehind um)
+pub um-inside : (um : List ℕ) → umFormed um ≡ true → FieldsWithin Command (umChl um) (umBehind um)
 um-inside um e =
     let f = um-facts um e in
     let n : length (umBehind um) ≡ length (fromChl um) - lengthSize (fromChl um) = length-drop (lengthSize (fromChl um)) (fromChl um) in

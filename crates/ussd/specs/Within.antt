@@ -17,8 +17,8 @@ lengthsRight a b =
     && leb (lengthValue b + lengthSize b) (lengthValue a)
 
 -- what a string is asked before what is behind its lengths: 2, 5, 9
-abbrev pub opened : {A : Type 0} → (pfi dcs : ℕ) → List ℕ → Outcome A → Outcome A
-opened pfi dcs s o =
+abbrev pub stringOpened : {A : Type 0} → (pfi dcs : ℕ) → List ℕ → Outcome A → Outcome A
+stringOpened pfi dcs s o =
     refuse 2 when ltb mostString (length s) otherwise
     refuse 5 when not (addressed pfi dcs s) otherwise
     refuse 9 when not (umFormed (drop 1 s)) otherwise

@@ -15,7 +15,7 @@ ghost use Rattle.types.specs.Refusals.{gives};
 ghost use Rattle.packet.specs.Told.{toldCommand};
 ghost use Rattle.packet.specs.Judging.{toldJudged};
 ghost use Rattle.ussd.specs.Ussd.{umChl, umStart, addressed, readableUssd, readUssd, shownUssdData, shownUssdCheck, shownUssdOpaque};
-ghost use Rattle.ussd.specs.Within.{opened};
+ghost use Rattle.ussd.specs.Within.{stringOpened};
 
 // Whether a string comes with the DCS of binary data, and begins with this PFI and the identifier of a command.
 fn is_addressed(pfi: u8, dcs: u8, string: &[u8]) -> bool
@@ -35,7 +35,7 @@ fn um_of(string: &[u8]) -> &[u8]
 
 // What is asked of a string before what is behind its lengths: 2, 5, 9, or its header length.
 fn open(pfi: u8, dcs: u8, string: &[u8]) -> Judged
-    ensures { λ r. ⌜ toldJudged r ≡ opened pfi dcs (now (string .entry)) (gives (umChl (drop 1 (now (string .entry))))) ⌝ }
+    ensures { λ r. ⌜ toldJudged r ≡ stringOpened pfi dcs (now (string .entry)) (gives (umChl (drop 1 (now (string .entry))))) ⌝ }
 {
     if USSD_OCTETS < string.len() {
         return Judged::Refused(Refusal::InputLength);
