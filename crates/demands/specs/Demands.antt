@@ -87,8 +87,7 @@ pub record Demand2 : Type 0 where
 -- 3. The wake window with n slots, for either kind, every key, every packet and every cut of it: "at most n − 1 other keys" (02 [5]), "fewer beats
 -- than the least limit used" (02 [6]), and the same with the sharper premise that the i-th beat has a limit above i; and "at no moment does one
 -- key occupy two slots". No series is displaced while at most n keys are unfinished. A beat gives up what is dead: after as many beats as the
--- limit and no touch, the key is held no more.
--- than the least limit used" (02 [6]), and the same with the sharper premise that the i-th beat has a limit above i; and "at no moment does one key occupy two slots". No series is displaced while at most n keys are unfinished. Within the window others do not show (02 [11]).
+-- limit and no touch, the key is held no more. Within the window others do not show (02 [11]).
 pub record Demand3 (n : ℕ) : Type 0 where
   pub wake-window : (k : Kind) (K : Key) (P : List ℕ) (parts : List (List ℕ)) → WakeWindow n k K P parts FewerThanLeast
   pub packet-comes : (k : Kind) (K : Key) (P : List ℕ) (parts : List (List ℕ)) → PacketComes n k K P parts FewerThanLeast

@@ -108,9 +108,8 @@ pub record Tellings : Type 0 where
   -- parse_command, parse_response, read_ussd
   pub parse-command : Tight toldCommand
   pub parse-response : Tight toldResponse
-  -- build_command, build_ciphered_command, build_response, build_ciphered_response, command_checksum, response_checksum, salvage
   -- build_command, build_ciphered_command, build_response, build_ciphered_response, command_checksum, response_checksum, write_ussd,
-  -- write_ciphered_ussd, ussd_checksum
+  -- write_ciphered_ussd, ussd_checksum, salvage
   pub build-and-checksum : Tight toldBuilt
   -- read_message, read_page
   pub read-message-and-page : Tight toldArrival
@@ -132,7 +131,6 @@ pub record Tellings : Type 0 where
   pub command-sent : Tight toldSent
   -- response_came
   pub response-came : Tight toldCame
-  -- and of the calls between crates: judge, packet_size, hand_out; and of what walk answers, though its promise is the answer itself
   -- and of the calls between crates: judge, rule, packet_size, hand_out; and of what walk answers, though its promise is the answer itself
   pub judge : Tight toldJudged
   pub rule : Tight toldRuling
@@ -141,11 +139,9 @@ pub record Tellings : Type 0 where
   pub hand-out : Tight toldHanded
 
 -- Where the promise is that the outcome itself is what the rule says, nothing else can be told of it. So it is of the other calls between
--- crates: wide, formed, before, least, cipher_bit, ciphered_command, element, nothing, plus, walk, in_range, is_pageless, reference_fits, room,
--- no_front, extended, front_of, opened, free_slot, with_part, same_key, slots_in, seat_of, at_front, replaced.
 -- crates: wide, formed, before, least, cipher_bit, ciphered_command, header_of, behind_lengths, octet, past, ciphered, within, check_field,
 -- against_check, outside, put_runs, data_of, check_of, opaque_of, element, nothing, plus, walk, in_range, is_pageless, reference_fits, room,
--- no_front, extended, front_of, opened, free_slot, with_part, same_key, slots_in, seat_of, replaced.
+-- no_front, extended, front_of, opened, free_slot, with_part, same_key, slots_in, seat_of, at_front, replaced.
 abbrev pub PlainPromises : Type 1
 PlainPromises = (Outcome : Type 0) → Tight {Outcome = Outcome} {Paper = Outcome} (λ r. r)
 

@@ -13,7 +13,7 @@ pub use Rattle.report.specs.Reporting.{Going, nothingGoes, inReport, announced,
 unfoldable pub use Rattle.report.specs.Reporting.{writeReport, responseAnnounces}
 pub use Rattle.counters.specs.Counters.{noCounters, Assessed, assessed, toldJudgement}
 unfoldable pub use Rattle.counters.specs.Counters.{judgeCounter}
-pub use Rattle.gateway.specs.Gateway.{sentCommand, noCommands, Fate, closed, waiting, Settled, settled, toldSending, toldClosing}
+pub use Rattle.gateway.specs.Gateway.{sentCommand, noCommands, Fate, fateClosed, fateWaiting, Settled, settled, toldSending, toldClosing}
 unfoldable pub use Rattle.gateway.specs.Gateway.{commandSent, responseCame}
 pub use Rattle.capture.specs.Captures.{mostCapture, recordHead}
 unfoldable pub use Rattle.capture.specs.Captures.{salvaging, nextRun, recordIn}

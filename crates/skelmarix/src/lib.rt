@@ -121,6 +121,7 @@ pub use types::Closing;
 pub use types::Outstanding;
 pub use types::Sending;
 pub use types::SentCommand;
+
 // Captures: what is sound of one, the runs that are skipped, and one record by itself.
 pub use capture::next_skipped;
 pub use capture::read_captured;
