@@ -80,8 +80,10 @@ demand-2 = record {
 
 pub demand-3 : (n : ℕ) → Slots n → Demand3 n
 demand-3 n good = record {
-  wake-window = wake.wake-window-least n good;
-  packet-comes = wake.packet-comes-least n good;
+  wake-window = wake.wake-window-of-all n good;
+  packet-comes = wake.packet-comes-of-all n good;
+  wake-window-between = wake.wake-window-least n good;
+  packet-comes-between = wake.packet-comes-least n good;
   wake-window-sharp = wake.wake-window n good;
   packet-comes-sharp = wake.packet-comes n good;
   always-formed = λ k. calls.always-formed n good k (wake.admits k);

@@ -36,7 +36,8 @@ use Rattle.series.specs.Taking.{After, Answer, kept, heldAlready, packet, step,
 use Rattle.series.specs.Calls.{read}
 use Rattle.demands.specs.Lists.{elem, add, complete}
 use Rattle.demands.specs.Runs.{Slots, Call, Event, takes, beats, Store, fresh, outcome, left, Proper, Each}
-use Rattle.demands.specs.Wake.{Cut, History, firstSlot, FewerThanLeast, InTime, Seating, lowest-free, least-recent, goes-on, begin, historyAfter, historyBy, follow, EachWith, Fair, Served, again, waits, wakes, Start}
+use Rattle.demands.specs.Timely.{FewerThanLeast, InTime}
+use Rattle.demands.specs.Wake.{Cut, History, firstSlot, Seating, lowest-free, least-recent, goes-on, begin, historyAfter, historyBy, follow, EachWith, Fair, Served, again, waits, wakes, Start}
 use Rattle.demands.specs.SplitTaken.{listed}
 use Rattle.demands.specs.Examples.{M}
 use Rattle.demands.specs.Reached.{key, halves, first, second, stranger, strangers, crowd, cells}

@@ -37,7 +37,8 @@ use Rattle.demands.specs.Examples.{M}
 use Rattle.demands.specs.Lists.{elemKey, addKey}
 use Rattle.demands.specs.Runs.{Slots, Call, Event, takes, Store, fresh, outcome, left, run, ProperCall, Proper}
 use Rattle.demands.specs.Wake as window
-use Rattle.demands.specs.Wake.{in-messages, History, InTime, historyBy, counts, follow, Fair, begin}
+use Rattle.demands.specs.Timely.{InTime}
+use Rattle.demands.specs.Wake.{in-messages, History, historyBy, counts, follow, Fair, begin}
 use Rattle.demands.specs.Reached as reached
 use Rattle.demands.specs.Reached.{key, halves, callFrom, first, second, strangers, crowd, cells, Met, Missed, longest, longestPaged, asMessage, asPage, inOrder, Longest}
 use Rattle.demands.specs.SplitTaken.{listed, keyUnder}

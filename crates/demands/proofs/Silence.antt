@@ -35,13 +35,14 @@ use Rattle.demands.specs.Examples.{M}
 use Rattle.demands.specs.Lists.{elem}
 use Rattle.demands.specs.Runs.{Slots, Call, Event, takes, beats, ProperCall, Proper, Each, Store, fresh, outcome, left, leftBy, run}
 use Rattle.demands.specs.Wake as window
-use Rattle.demands.specs.Wake.{History, FewerThanLeast, counts, Start, begin, historyBy, follow, Fair}
+use Rattle.demands.specs.Timely.{limitsOf, FewerThanLeastOfAll}
+use Rattle.demands.specs.Wake.{History, counts, Start, begin, historyBy, follow, Fair}
 use Rattle.demands.specs.Reached.{key, halves, first, second, cells}
 use Rattle.demands.specs.Silence.{BeatRefuses, BeatDoes, Beating, NoTouch, beatsWithin, silence, SilentGivenUp, MetInTime, MissedTooLate, OnTheLimit}
 use Rattle.demands.proofs.Calls.{isPage, taking, fresh-free, Kept, Beat, no-beat, is-beat, beat?, beat-is, kept-beat, kept-by, kept-fresh}
 use Rattle.demands.proofs.Track.{key-there, used-before}
 use Rattle.demands.proofs.Along.{All, each, Along, each-with, store-run}
-use Rattle.demands.proofs.Wake.{admits, wake-window-least}
+use Rattle.demands.proofs.Wake.{admits, wake-window-of-all}
 use Rattle.demands.proofs.Reached.{same-part, proper-first, proper-second, reads-first, reads-second}
 
 -- ---- one beat
@@ -366,22 +367,12 @@ module _ (n : ℕ) (pos : Slots n) (b limit : ℕ) (low : 0 < limit) (high : lim
     arrived : q .arrived ≡ 1 ∷ []
     alone : q .othersSince ≡ []
     count : length (q .beatsSince) ≡ m
-    limits : (l : ℕ) → elem l (q .beatsSince) ≡ true → l ≡ limit
 
   waits-first : Waits 0 w₁
-  waits-first = rw (reads-first n pos b) (record { arrived = refl; alone = refl; count = refl; limits = λ l e. absurd (clash false e refl) })
+  waits-first = rw (reads-first n pos b) (record { arrived = refl; alone = refl; count = refl })
 
   waits-beat : (m : ℕ) (q : History) → Waits m q → Waits (suc m) (historyBy n Command key q (beats limit))
-  waits-beat m q w = rw (ne-eqb limit 0 (λ z. omega arith)) (record {
-    arrived = w .arrived;
-    alone = w .alone;
-    count = ap suc (w .count);
-    limits = λ l e. go l (same? l limit) e;
-  })
-    where
-      go : (l : ℕ) → Same l limit → eqb l limit || elem l (q .beatsSince) ≡ true → l ≡ limit
-      go l (same p x) e = x
-      go l (other p x) e = w .limits l (simp p at e)
+  waits-beat m q w = rw (ne-eqb limit 0 (λ z. omega arith)) (record { arrived = w .arrived; alone = w .alone; count = ap suc (w .count) })
 
   waits-all : (j m : ℕ) (q : History) → Waits m q → Waits (j + m) (follow n Command key q (silence limit j))
   waits-all zero m q w = let e : m ≡ 0 + m = omega arith in subst (λ (o : ℕ). Waits o q) e w
@@ -389,8 +380,21 @@ module _ (n : ℕ) (pos : Slots n) (b limit : ℕ) (low : 0 < limit) (high : lim
       let e : j + suc m ≡ suc j + m = omega arith in
       subst (λ (o : ℕ). Waits o (follow n Command key q (silence limit (suc j)))) e (waits-all j (suc m) (historyBy n Command key q (beats limit)) (waits-beat m q w))
 
+  abbrev calls : List Event
+  calls = takes (first b) ∷ silence limit (limit - 1) ++ takes (second b) ∷ []
+
+  -- the sequence uses one limit
+  one-limit : (j l : ℕ) → elem l (limitsOf (silence limit j ++ takes (second b) ∷ [])) ≡ true → l ≡ limit
+  one-limit zero l e = absurd (clash false e refl)
+  one-limit (suc j) l e = go (same? l limit) (rw (ne-eqb limit 0 (λ z. omega arith)) at e) (one-limit j l)
+    where
+      go : Same l limit → eqb l limit || elem l (limitsOf (silence limit j ++ takes (second b) ∷ [])) ≡ true
+          → (elem l (limitsOf (silence limit j ++ takes (second b) ∷ [])) ≡ true → l ≡ limit) → l ≡ limit
+      go (same p x) e ih = x
+      go (other p x) e ih = ih (simp p at e)
+
   abbrev Fair′ : History → Call → (total number start : ℕ) → Type 0
-  Fair′ = Fair n Command key M halves FewerThanLeast
+  Fair′ = Fair n Command key M halves (FewerThanLeastOfAll calls)
 
   fair-rest : (j m : ℕ) (q : History) → Waits m q → j + m < limit → Along n Command key 2 Fair′ q (silence limit j ++ takes (second b) ∷ [])
   fair-rest zero m q w few = (
@@ -400,7 +404,7 @@ module _ (n : ℕ) (pos : Slots n) (b limit : ℕ) (low : 0 < limit) (high : lim
           counted = sym t;
           brought = rw (← m′, ← s);
           fewOthers = λ ne. rw (w .alone) (pos .some);
-          inTime = λ ne l h. omega (arith, w .count, w .limits l h);
+          inTime = λ ne l h. omega (arith, w .count, one-limit (limit - 1) l h);
         }),
     tt,
   )
@@ -410,10 +414,7 @@ module _ (n : ℕ) (pos : Slots n) (b limit : ℕ) (low : 0 < limit) (high : lim
   proper-rest zero = (proper-second n pos b, tt)
   proper-rest (suc j) = (high, proper-rest j)
 
-  abbrev calls : List Event
-  calls = takes (first b) ∷ silence limit (limit - 1) ++ takes (second b) ∷ []
-
-  starts : Start n Command key M halves FewerThanLeast (cells n b) [] calls
+  starts : Start n Command key M halves (FewerThanLeastOfAll calls) (cells n b) [] calls
   starts = record {
     formed = refl;
     cut = window.in-messages refl refl;
@@ -447,7 +448,7 @@ module _ (n : ℕ) (pos : Slots n) (b limit : ℕ) (low : 0 < limit) (high : lim
   met-in-time = record {
     start = starts;
     comes = ap (λ (st : Store). outcome n st (second b) .answer) (sym (store-run n Command key (takes (first b) ∷ silence limit (limit - 1)) w₀))
-        ∙ handed (wake-window-least n pos Command key M halves (cells n b) [] calls starts (takes (first b) ∷ silence limit (limit - 1)) (second b) [] refl 2 2 6 (reads-second n pos b) (rw (waits-then .arrived)));
+        ∙ handed (wake-window-of-all n pos Command key M halves (cells n b) [] calls starts (takes (first b) ∷ silence limit (limit - 1)) (second b) [] refl 2 2 6 (reads-second n pos b) (rw (waits-then .arrived)));
   }
 
 pub on-the-limit : (n : ℕ) → Slots n → OnTheLimit n

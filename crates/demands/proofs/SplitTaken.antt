@@ -25,7 +25,9 @@ use Rattle.split.specs.Laws.{single-size, part-whole, parts-join, pages-join, p
 use Rattle.split.specs.ReadBack.{ownFrom, read-single, single-octets, read-part, own-octets, read-single-page, read-page, content-octets}
 use Rattle.demands.specs.Lists.{concat, complete}
 use Rattle.demands.specs.Runs.{Slots, Call, Event}
-use Rattle.demands.specs.Wake.{InTime, Cut, in-messages, in-pages, History, begin, follow, EachWith, Fair, Served, Start, Comes}
+use Rattle.demands.specs.Timely.{InTime}
+use Rattle.demands.specs.Wake.{Cut, in-messages, in-pages, History, begin, follow, EachWith, Fair, Served, Start}
+use Rattle.demands.specs.Coming.{Comes}
 use Rattle.demands.specs.SplitTaken.{listed, Sent, Sending, Arrives, keyUnder, MessagesArrive, PagesArrive}
 use Rattle.demands.proofs.Lists.{concat-last}
 use Rattle.demands.proofs.Calls.{isPage}

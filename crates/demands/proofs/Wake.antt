@@ -1,8 +1,8 @@
 -- The wake window: the invariant holds from call to call, so each call with the key is served.
 use Prim.Native.Nat.{ℕ, suc, _+_, _-_, _≤_, _<_}
 use mathlib.Core.Path.{_≡_, refl, sym, ap, _∙_, subst}
-use mathlib.Core.Bool.{Bool, true, false, _||_}
-use mathlib.Core.List.{List, [], _∷_}
+use mathlib.Core.Bool.{Bool, true, false, cond, _||_, or-true}
+use mathlib.Core.List.{List, [], _∷_, _++_}
 use mathlib.Core.Option.{Option, none, some}
 use native.Mathlib.Omega.{arith}
 use lib.ListN.{length, getD, drop}
@@ -27,7 +27,9 @@ use Rattle.formed.specs.Laws.{Formed}
 use Rattle.types.specs.declared.Record.{Record}
 use Rattle.demands.specs.Lists.{elem, add, complete}
 use Rattle.demands.specs.Runs.{Slots, Call, Event, takes, beats, Store, outcome, left, ProperCall, Proper, Each}
-use Rattle.demands.specs.Wake.{Cut, History, FewerThanLeast, InTime, Start, begin, historyAfter, historyBy, follow, EachWith, Fair, Served, again, waits, wakes, WakeWindow, Comes, comes, PacketComes}
+use Rattle.demands.specs.Timely.{limitsOf, FewerThanLeastOfAll, FewerThanLeast, InTime}
+use Rattle.demands.specs.Wake.{Cut, History, Start, begin, historyAfter, historyBy, follow, EachWith, Fair, Served, again, waits, wakes, WakeWindow}
+use Rattle.demands.specs.Coming.{Comes, comes, PacketComes}
 use Rattle.demands.proofs.Lists.{Alike, alike, unlike, alike?, elem-still, add-old}
 use Rattle.demands.proofs.Calls.{isPage, taking, Kept, Admits, Beat, no-beat, is-beat, beat?, beat-is, kept-proper, kept-beat, kept-fresh}
 use Rattle.demands.proofs.Along.{Here, HereBy, Along, each-with}
@@ -221,10 +223,10 @@ module _ (n : ℕ) (pos : Slots n) (k : Kind) (K : Key) (P : List ℕ) (parts : 
       served n pos k K P parts (st .formed) (st .cut) (st .two) calls (begin n k cells earlier)
       (kept-fresh n pos k (admits k) cells (st .size) earlier (st .before)) (before refl (st .lacks)) (st .proper) (st .fair)
 
-  pub wake-window : WakeWindow n k K P parts InTime
+  pub wake-window : WakeWindow n k K P parts (λ events. InTime)
   wake-window cells earlier calls st = each-with n k K (length parts) (Served n k K P parts) calls (begin n k cells earlier) (all-served cells earlier calls st)
 
-  pub packet-comes : PacketComes n k K P parts InTime
+  pub packet-comes : PacketComes n k K P parts (λ events. InTime)
   packet-comes cells earlier calls st =
       handed-out n pos k K P parts (st .formed) (st .cut) (st .two) calls (begin n k cells earlier) (st .fair) (all-served cells earlier calls st)
       (none-complete (length parts) (st .two))
@@ -251,9 +253,66 @@ fewer-in-time limits few = go limits 0 (λ limit e. omega (arith, few limit e))
         either l (same p q) e = rw p
         either l (other p q) e = rw p e
 
+-- the limits of the beats since the last call with the key are among those that the sequence uses
+abbrev Among : List ℕ → List ℕ → Type 0
+Among used limits = (limit : ℕ) → elem limit limits ≡ true → elem limit used ≡ true
+
+elem-either : (l : ℕ) (xs ys : List ℕ) → elem l (xs ++ ys) ≡ elem l xs || elem l ys
+elem-either l [] ys = refl
+elem-either l (x ∷ xs) ys = go (eqb l x) (elem-either l xs ys)
+  where
+    go : (b : Bool) → elem l (xs ++ ys) ≡ elem l xs || elem l ys → b || elem l (xs ++ ys) ≡ (b || elem l xs) || elem l ys
+    go true e = refl
+    go false e = e
+
+limits-both : (es fs : List Event) → limitsOf (es ++ fs) ≡ limitsOf es ++ limitsOf fs
+limits-both [] fs = refl
+limits-both (takes c ∷ es) fs = limits-both es fs
+limits-both (beats limit ∷ es) fs = go (eqb limit 0) (limits-both es fs)
+  where
+    go : (b : Bool) → limitsOf (es ++ fs) ≡ limitsOf es ++ limitsOf fs
+        → cond b (limitsOf (es ++ fs)) (limit ∷ limitsOf (es ++ fs)) ≡ cond b (limitsOf es) (limit ∷ limitsOf es) ++ limitsOf fs
+    go true e = e
+    go false e = ap (λ (l : List ℕ). limit ∷ l) e
+
+-- a call leaves of them all or none, and a beat that is not refused adds its own, which the sequence uses
+module _ (n : ℕ) (k : Kind) (K : Key) (used : List ℕ) where
+  since-call : (w : History) (a : After) (r : reading.Outcome Brought) → Among used (w .beatsSince) → Among used (historyAfter n k K w a r .beatsSince)
+  since-call w a (reading.refused m) old = old
+  since-call w a (reading.gives (single start)) old = old
+  since-call w a (reading.gives (part X total number start)) old = go (alike? X K)
+    where
+      go : Alike X K → Among used (historyAfter n k K w a (reading.gives (part X total number start)) .beatsSince)
+      go (alike e p) = rw e (λ limit z. absurd (clash false z refl))
+      go (unlike e p) = rw e old
+
+  since-among : (es : List Event) (w : History) → Among used (limitsOf es) → Among used (w .beatsSince) → Among used (follow n k K w es .beatsSince)
+  since-among [] w all old = old
+  since-among (takes c ∷ es) w all old =
+      since-among es (historyBy n k K w (takes c)) all (since-call w (outcome n (w .store) c) (read k (c .input)) old)
+  since-among (beats limit ∷ es) w all old =
+      since-among es (historyBy n k K w (beats limit)) (rest (eqb limit 0) all) (more (eqb limit 0) all old)
+    where
+      rest : (b : Bool) → Among used (cond b (limitsOf es) (limit ∷ limitsOf es)) → Among used (limitsOf es)
+      rest true all = all
+      rest false all = λ l e. all l (ap (λ (b : Bool). eqb l limit || b) e ∙ or-true (eqb l limit))
+
+      more : (b : Bool) → Among used (cond b (limitsOf es) (limit ∷ limitsOf es)) → Among used (w .beatsSince)
+          → Among used (cond b (w .beatsSince) (limit ∷ w .beatsSince))
+      more true all old = old
+      more false all old = λ l e. go l (same? l limit) e
+        where
+          go : (l : ℕ) → Same l limit → eqb l limit || elem l (w .beatsSince) ≡ true → elem l used ≡ true
+          go l (same p x) e = all l (rw p)
+          go l (other p x) e = old l (simp p at e)
+
 module _ (n : ℕ) (pos : Slots n) (k : Kind) (K : Key) (P : List ℕ) (parts : List (List ℕ)) where
-  pub sharper : (cells : List ℕ) (earlier calls : List Event) → Start n k K P parts FewerThanLeast cells earlier calls → Start n k K P parts InTime cells earlier calls
-  sharper cells earlier calls st = record {
+  -- a premise on beats that implies another, at each call, may stand for it
+  refit : (Timely Other : List ℕ → Type 0) (cells : List ℕ) (earlier calls : List Event)
+      → ((u : List Event) (c : Call) (v : List Event) → calls ≡ u ++ takes c ∷ v
+      → Timely (follow n k K (begin n k cells earlier) u .beatsSince) → Other (follow n k K (begin n k cells earlier) u .beatsSince))
+      → Start n k K P parts Timely cells earlier calls → Start n k K P parts Other cells earlier calls
+  refit Timely Other cells earlier calls implied st = record {
     formed = st .formed;
     cut = st .cut;
     two = st .two;
@@ -263,11 +322,33 @@ module _ (n : ℕ) (pos : Slots n) (k : Kind) (K : Key) (P : List ℕ) (parts : 
     lacks = st .lacks;
     fair = λ u c v e total number start reads open′.
         let f = st .fair u c v e total number start reads open′ in
-        record { counted = f .counted; brought = f .brought; fewOthers = f .fewOthers; inTime = λ begun. fewer-in-time (follow n k K (begin n k cells earlier) u .beatsSince) (f .inTime begun) };
+        record { counted = f .counted; brought = f .brought; fewOthers = f .fewOthers; inTime = λ begun. implied u c v e (f .inTime begun) };
   }
 
-  pub wake-window-least : WakeWindow n k K P parts FewerThanLeast
+  pub sharper : (cells : List ℕ) (earlier calls : List Event) → Start n k K P parts FewerThanLeast cells earlier calls → Start n k K P parts InTime cells earlier calls
+  sharper cells earlier calls = refit FewerThanLeast InTime cells earlier calls (λ u c v e. fewer-in-time (follow n k K (begin n k cells earlier) u .beatsSince))
+
+  pub wake-window-least : WakeWindow n k K P parts (λ events. FewerThanLeast)
   wake-window-least cells earlier calls st = wake-window n pos k K P parts cells earlier calls (sharper cells earlier calls st)
 
-  pub packet-comes-least : PacketComes n k K P parts FewerThanLeast
+  pub packet-comes-least : PacketComes n k K P parts (λ events. FewerThanLeast)
   packet-comes-least cells earlier calls st = packet-comes n pos k K P parts cells earlier calls (sharper cells earlier calls st)
+
+  -- the least over all of the sequence is at most the least over the beats between two calls
+  pub between : (cells : List ℕ) (earlier calls : List Event) → Start n k K P parts (FewerThanLeastOfAll (earlier ++ calls)) cells earlier calls
+      → Start n k K P parts FewerThanLeast cells earlier calls
+  between cells earlier calls = refit (FewerThanLeastOfAll (earlier ++ calls)) FewerThanLeast cells earlier calls
+      (λ u c v e few limit l. few limit (since-among n k K (limitsOf (earlier ++ calls)) u (begin n k cells earlier) (of-all u c v e) (λ m z. absurd (clash false z refl)) limit l))
+    where
+      of-all : (u : List Event) (c : Call) (v : List Event) → calls ≡ u ++ takes c ∷ v → Among (limitsOf (earlier ++ calls)) (limitsOf u)
+      of-all u c v e limit l = ap (λ (es : List Event). elem limit (limitsOf (earlier ++ es))) e
+          ∙ ap (elem limit) (limits-both earlier (u ++ takes c ∷ v) ∙ ap (λ (o : List ℕ). limitsOf earlier ++ o) (limits-both u (takes c ∷ v)))
+          ∙ elem-either limit (limitsOf earlier) (limitsOf u ++ limitsOf (takes c ∷ v))
+          ∙ ap (λ (b : Bool). elem limit (limitsOf earlier) || b) (elem-either limit (limitsOf u) (limitsOf v) ∙ ap (λ (b : Bool). b || elem limit (limitsOf v)) l)
+          ∙ or-true (elem limit (limitsOf earlier))
+
+  pub wake-window-of-all : WakeWindow n k K P parts FewerThanLeastOfAll
+  wake-window-of-all cells earlier calls st = wake-window-least cells earlier calls (between cells earlier calls st)
+
+  pub packet-comes-of-all : PacketComes n k K P parts FewerThanLeastOfAll
+  packet-comes-of-all cells earlier calls st = packet-comes-least cells earlier calls (between cells earlier calls st)

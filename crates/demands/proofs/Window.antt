@@ -37,7 +37,8 @@ use Rattle.beats.specs.Laws.{stayed}
 use Rattle.series.specs.KeepLaws.{short}
 use Rattle.demands.specs.Lists.{concat, elem, elemKey, add, addKey, complete}
 use Rattle.demands.specs.Runs.{Call, outcome}
-use Rattle.demands.specs.Wake.{Cut, in-messages, in-pages, History, counts, firstSlot, InTime, Seating, lowest-free, least-recent, goes-on, Served, again as served-again, waits, wakes}
+use Rattle.demands.specs.Timely.{InTime}
+use Rattle.demands.specs.Wake.{Cut, in-messages, in-pages, History, counts, firstSlot, Seating, lowest-free, least-recent, goes-on, Served, again as served-again, waits, wakes}
 use Rattle.demands.proofs.Lists.{add-old, add-not-nil, first-known, complete-add, one-short, elem-key-add, elem-key-self, length-add-key, pigeon, keys-apart, joined-parts}
 use Rattle.demands.proofs.Track.{length-short, Track, lacks-moved, track-moved, track-again, track-beat, track-kept}
 

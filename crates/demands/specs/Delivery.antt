@@ -21,7 +21,8 @@ use Rattle.series.specs.Calls.{Input, message, page}
 use Rattle.split.specs.Splitting as split
 use Rattle.demands.specs.Lists.{complete}
 use Rattle.demands.specs.Runs.{Call, Event, takes, fresh, outcome, run, Proper, Each}
-use Rattle.demands.specs.Wake.{History, begin, EachWith, Served, Comes}
+use Rattle.demands.specs.Wake.{History, begin, EachWith, Served}
+use Rattle.demands.specs.Coming.{Comes}
 use Rattle.demands.specs.SplitTaken.{listed, keyUnder}
 
 -- The calls bring, in this order, the inputs that were written under these numbers, and nothing else; each lends an output of 01's length.

@@ -11,7 +11,9 @@ use Rattle.demands.specs.Orders.{OrderFree}
 use Rattle.demands.specs.Twice.{ReadAsWithout, TakenAsWithout, LastReplaces}
 use Rattle.demands.specs.RoundTrips.{BuildThenRead, CommandTells, ReadThenBuild, AnswersBuild, ReadThenBuildCalls, FixedLengths, ChecksumCovers, ParsesOrRefuses, ParsedIsFormed, BuildsOrRefuses, SplitMessages, SplitPages}
 use Rattle.demands.specs.Checked.{CheckBits, StillCarried}
-use Rattle.demands.specs.Wake.{FewerThanLeast, InTime, WakeWindow, PacketComes}
+use Rattle.demands.specs.Timely.{FewerThanLeastOfAll, FewerThanLeast, InTime}
+use Rattle.demands.specs.Wake.{WakeWindow}
+use Rattle.demands.specs.Coming.{PacketComes}
 use Rattle.demands.specs.Always.{AlwaysFormed, NoKeyTwice}
 use Rattle.demands.specs.Reachable.{Acceptance, RefusedIfNeverMade}
 use Rattle.demands.specs.Crowding.{NeverDisplaced}
@@ -85,14 +87,16 @@ pub record Demand2 : Type 0 where
   pub ussd-messages : UssdMessages
 
 -- 3. The wake window with n slots, for either kind, every key, every packet and every cut of it: "at most n − 1 other keys" (02 [5]), "fewer beats
--- than the least limit used" (02 [6]), and the same with the sharper premise that the i-th beat has a limit above i; and "at no moment does one
--- key occupy two slots". No series is displaced while at most n keys are unfinished. A beat gives up what is dead: after as many beats as the
+-- than the least limit used" (02 [6]), the least over all of the sequence; the same with the least over the beats between the two calls, which asks
+-- less, and with the sharper premise that the i-th beat has a limit above i, which asks least; and "at no moment does one key occupy two slots". No series is displaced while at most n keys are unfinished. A beat gives up what is dead: after as many beats as the
 -- limit and no touch, the key is held no more. Within the window others do not show (02 [11]).
 pub record Demand3 (n : ℕ) : Type 0 where
-  pub wake-window : (k : Kind) (K : Key) (P : List ℕ) (parts : List (List ℕ)) → WakeWindow n k K P parts FewerThanLeast
-  pub packet-comes : (k : Kind) (K : Key) (P : List ℕ) (parts : List (List ℕ)) → PacketComes n k K P parts FewerThanLeast
-  pub wake-window-sharp : (k : Kind) (K : Key) (P : List ℕ) (parts : List (List ℕ)) → WakeWindow n k K P parts InTime
-  pub packet-comes-sharp : (k : Kind) (K : Key) (P : List ℕ) (parts : List (List ℕ)) → PacketComes n k K P parts InTime
+  pub wake-window : (k : Kind) (K : Key) (P : List ℕ) (parts : List (List ℕ)) → WakeWindow n k K P parts FewerThanLeastOfAll
+  pub packet-comes : (k : Kind) (K : Key) (P : List ℕ) (parts : List (List ℕ)) → PacketComes n k K P parts FewerThanLeastOfAll
+  pub wake-window-between : (k : Kind) (K : Key) (P : List ℕ) (parts : List (List ℕ)) → WakeWindow n k K P parts (λ events. FewerThanLeast)
+  pub packet-comes-between : (k : Kind) (K : Key) (P : List ℕ) (parts : List (List ℕ)) → PacketComes n k K P parts (λ events. FewerThanLeast)
+  pub wake-window-sharp : (k : Kind) (K : Key) (P : List ℕ) (parts : List (List ℕ)) → WakeWindow n k K P parts (λ events. InTime)
+  pub packet-comes-sharp : (k : Kind) (K : Key) (P : List ℕ) (parts : List (List ℕ)) → PacketComes n k K P parts (λ events. InTime)
   pub always-formed : (k : Kind) → AlwaysFormed n k
   pub no-key-twice : (k : Kind) → NoKeyTwice n k
   pub never-displaced : (k : Kind) → NeverDisplaced n k

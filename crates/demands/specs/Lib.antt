@@ -4,7 +4,9 @@ pub mod Orders
 pub mod Twice
 pub mod Lists
 pub mod Runs
+pub mod Timely
 pub mod Wake
+pub mod Coming
 pub mod Always
 pub mod Reachable
 pub mod Crowding

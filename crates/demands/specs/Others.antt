@@ -21,7 +21,8 @@ use Rattle.series.specs.Calls.{read}
 use Rattle.demands.specs.Examples.{M}
 use Rattle.demands.specs.Lists.{complete}
 use Rattle.demands.specs.Runs.{Call, Event, takes, beats, Store, fresh, outcome, left, run, ProperCall}
-use Rattle.demands.specs.Wake.{InTime, begin, follow, Fair, Start}
+use Rattle.demands.specs.Timely.{InTime}
+use Rattle.demands.specs.Wake.{begin, follow, Fair, Start}
 use Rattle.demands.specs.SplitTaken.{listed}
 use Rattle.demands.specs.Reached.{key, halves, first, second, crowd, cells}
 

@@ -16,7 +16,8 @@ use Rattle.series.specs.Calls.{Input, message, page}
 use Rattle.split.specs.Splitting as split
 use Rattle.demands.specs.Examples.{M}
 use Rattle.demands.specs.Runs.{Call, Event, takes, fresh, outcome, run}
-use Rattle.demands.specs.Wake.{Start, InTime, begin}
+use Rattle.demands.specs.Timely.{InTime}
+use Rattle.demands.specs.Wake.{Start, begin}
 use Rattle.demands.specs.SplitTaken.{listed}
 use Rattle.demands.specs.Delivery.{InParts}
 

@@ -20,7 +20,8 @@ use Rattle.series.specs.CaseLaws.{Lacks}
 use Rattle.series.specs.Calls.{read}
 use Rattle.demands.specs.Examples.{M}
 use Rattle.demands.specs.Runs.{Call, Event, takes, beats, ProperCall, Proper, Each, Store, fresh, outcome, run}
-use Rattle.demands.specs.Wake.{FewerThanLeast, counts, Start}
+use Rattle.demands.specs.Timely.{FewerThanLeastOfAll}
+use Rattle.demands.specs.Wake.{counts, Start}
 use Rattle.demands.specs.Reached.{key, halves, first, second, cells}
 
 -- ---- one beat
@@ -78,9 +79,11 @@ silence limit (suc m) = beats limit ∷ silence limit m
 
 -- ---- the number is the right one, for each limit
 module _ (n b limit : ℕ) where
-  -- with one beat fewer than the limit between the two parts, the premises of the wake window hold as 02 words them, and the packet comes
+  -- with one beat fewer than the limit between the two parts, the premises of the wake window hold as 02 words them, the least limit over all of the
+  -- sequence, and the packet comes
   pub record MetInTime : Type 0 where
-    pub start : Start n Command key M halves FewerThanLeast (cells n b) [] (takes (first b) ∷ silence limit (limit - 1) ++ takes (second b) ∷ [])
+    pub start : let events : List Event = takes (first b) ∷ silence limit (limit - 1) ++ takes (second b) ∷ [] in
+        Start n Command key M halves (FewerThanLeastOfAll events) (cells n b) [] events
     pub comes : outcome n (run n (fresh n Command (cells n b)) (takes (first b) ∷ silence limit (limit - 1))) (second b) .answer ≡ packet 16
 
   -- with as many as the limit the first part is gone, and the second opens a series anew

@@ -17,7 +17,9 @@ use Rattle.series.specs.Calls.{Input, message, page}
 use Rattle.split.specs.Splitting as split
 use Rattle.demands.specs.Lists.{complete}
 use Rattle.demands.specs.Runs.{Call, Event, fresh, run, Proper, Each}
-use Rattle.demands.specs.Wake.{History, InTime, begin, follow, EachWith, Comes}
+use Rattle.demands.specs.Timely.{InTime}
+use Rattle.demands.specs.Wake.{History, begin, follow, EachWith}
+use Rattle.demands.specs.Coming.{Comes}
 
 -- f 1, f 2, .. f t
 abbrev pub listed : {A : Type 0} → (ℕ → A) → ℕ → List A

@@ -1,6 +1,6 @@
 -- Demand 3, the wake window, for n slots and with beats (02 [5], [6]); 01's library has three and none. Premises and conclusion are two predicates
 -- of what was seen before a call and of the call.
-use Prim.Native.Nat.{ℕ, suc, _-_, _≤_, _<_}
+use Prim.Native.Nat.{ℕ, _-_, _≤_, _<_}
 use mathlib.Core.Path.{_≡_}
 use mathlib.Core.Bool.{Bool, true, false, cond}
 use mathlib.Core.List.{List, [], _∷_, _++_}
@@ -51,15 +51,6 @@ abbrev pub firstSlot : List ℕ → Answer → ℕ → ℕ
 firstSlot [] answer was = elim answer [ kept i d ↦ i | heldAlready i ↦ was | packet m ↦ was | refusedBy m ↦ was ]
 firstSlot (m ∷ got) answer was = was
 
--- "In demand 3, between two successive calls with the key there are fewer beats than the least limit used" (02 [6]), the least over those beats
--- themselves; and sharper: the i-th beat since the last call with the key has a limit above i.
-abbrev pub FewerThanLeast : List ℕ → Type 0
-FewerThanLeast limits = (limit : ℕ) → elem limit limits ≡ true → length limits < limit
-
-abbrev pub InTime : List ℕ → Type 0
-InTime [] = Unit {0}
-InTime (limit ∷ earlier) = (suc (length earlier) < limit) × InTime earlier
-
 -- "A new key takes the lowest free slot; with none free it displaces the least recent series": the slot, and the mark of displacement. Later
 -- it is the slot of the first answer, and no mark. A free slot has rank 0, the most recent series rank 1.
 pub data Seating (n : ℕ) (rank : ℕ → ℕ) (w : History) (i : ℕ) : Bool → Type 0 where
@@ -93,7 +84,7 @@ module _ (n : ℕ) (k : Kind) (K : Key) where
 
   module _ (P : List ℕ) (parts : List (List ℕ)) where
     -- Premise: "each call with that key bring one of these parts, in any order, repeats allowed", and between two successive such calls fewer
-    -- than n other keys, "at most two", and beats that are in time: `Timely` is one of the two above.
+    -- than n other keys, "at most two", and beats that are in time, as `Timely` reads it.
     pub record Fair (Timely : List ℕ → Type 0) (w : History) (c : Call) (total number start : ℕ) : Type 0 where
       pub counted : total ≡ length parts
       pub brought : drop start (octetsOf (c .input)) ≡ getD parts (number - 1) []
@@ -124,16 +115,7 @@ module _ (n : ℕ) (k : Kind) (K : Key) where
       pub fair : EachWith (length parts) (Fair Timely) (begin n k cells earlier) calls
 
     -- THE WAKE WINDOW: "then no such call is refused, and the one that brings the last missing part hands out exactly that packet"
-    abbrev pub WakeWindow : (Timely : List ℕ → Type 0) → Type 0
-    WakeWindow Timely = (cells : List ℕ) (earlier calls : List Event) → Start Timely cells earlier calls → EachWith (length parts) Served (begin n k cells earlier) calls
-
-    -- If all parts are among the calls, "the one that brings the last missing part" is there: its number had not come, and with it all have.
-    pub data Comes (w : History) (calls : List Event) : Type 0 where
-      comes : (u : List Event) (c : Call) (v : List Event) (number start : ℕ) (r : Record) → calls ≡ u ++ takes c ∷ v
-          → read k (c .input) ≡ reading.gives (part K (length parts) number start) → elem number (follow w u .arrived) ≡ false
-          → complete (length parts) (add number (follow w u .arrived)) ≡ true → Lacks n (r .slots) K
-          → outcome n (follow w u .store) c ≡ after (packet (length P)) r (follow w u .store .cells) (P ++ drop (length P) (c .output)) → Comes w calls
-
-    abbrev pub PacketComes : (Timely : List ℕ → Type 0) → Type 0
-    PacketComes Timely = (cells : List ℕ) (earlier calls : List Event) → Start Timely cells earlier calls
-        → complete (length parts) (follow (begin n k cells earlier) calls .arrived) ≡ true → Comes (begin n k cells earlier) calls
+    abbrev pub WakeWindow : (Timely : List Event → List ℕ → Type 0) → Type 0
+    WakeWindow Timely =
+        (cells : List ℕ) (earlier calls : List Event) → Start (Timely (earlier ++ calls)) cells earlier calls
+        → EachWith (length parts) Served (begin n k cells earlier) calls
