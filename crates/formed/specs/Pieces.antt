@@ -9,8 +9,8 @@ use Rattle.arrival.specs.Page.{pageContent}
 use Rattle.arrival.specs.Keys.{ofPages, room}
 use Rattle.types.specs.declared.Slot.{Slot}
 use Rattle.slots.specs.Below.{allBelow}
-use Rattle.slots.specs.Slots.{mostSlots, slotAt, isFree}
-use Rattle.formed.specs.Formed.{markAt, sizeAt, slotFormed, keyTwice, inStep}
+use Rattle.slots.specs.Slots.{mostSlots, slotAt, isFree, used, sameKey}
+use Rattle.formed.specs.Formed.{markAt, sizeAt, slotFormed, countAhead}
 
 -- of `lengthFits`: the fewest octets of a part, and the most of part `number`
 abbrev pub fewest : Key → ℕ
@@ -31,9 +31,12 @@ slotHolds n k xs i = slotFormed k (slotAt xs i) && (ltb i n || isFree (slotAt xs
 abbrev pub slotsHold : ℕ → Kind → List Slot → Bool
 slotsHold n k xs = allBelow mostSlots (slotHolds n k xs)
 
--- of `keysDiffer` and `countsFollow`: slots i and j, and slot i with each before it
+-- of `keysDiffer` and `countsFollow`: two slots, slots i and j, and slot i with each before it
+abbrev pub pairApart : Slot → Slot → Bool
+pairApart x y = not (used x && used y && sameKey (x .key) (y .key)) && (not (countAhead x y) && not (countAhead y x))
+
 abbrev pub pairHolds : List Slot → ℕ → ℕ → Bool
-pairHolds xs i j = not (keyTwice xs i j) && inStep xs i j
+pairHolds xs i j = pairApart (slotAt xs i) (slotAt xs j)
 
 abbrev pub apartBefore : List Slot → ℕ → Bool
 apartBefore xs i = allBelow i (pairHolds xs i)

@@ -20,8 +20,8 @@ ghost use Rattle.arrival.specs.Message.{mostParts};
 ghost use Rattle.arrival.specs.Keys.{messageKeyFormed, pageKeyFormed, keyFormed, totalFits};
 ghost use Rattle.slots.specs.Below.{allBelow};
 ghost use Rattle.slots.specs.Slots.{mostSlots, used, sameKey};
-ghost use Rattle.formed.specs.Formed.{zeroKey, zeroPart, allZero, partFormed, heldCount, usedFormed, slotFormed, countAhead, usedCount, isRank, ranked, recordFormed};
-ghost use Rattle.formed.specs.Pieces.{fewest, most, slotsHold, apartBefore, slotsApart};
+ghost use Rattle.formed.specs.Formed.{zeroKey, zeroPart, allZero, partFormed, heldCount, usedFormed, slotFormed, countAhead, usedCount, ranked, recordFormed};
+ghost use Rattle.formed.specs.Pieces.{fewest, most, slotsHold, pairApart, slotsApart};
 
 // A flag as a number, to count it.
 fn one(flag: bool) -> u8
@@ -219,32 +219,35 @@ fn count_ahead(x: Slot, y: Slot) -> bool
     (x.rank != 0) & (x.rank < y.rank) & (y.beats < x.beats)
 }
 
-// Whether the key of slot i is no used slot's before it, and the counts of beats of slot i and of each before it follow recency.
-fn apart_before(state: Record, i: usize) -> bool
-    requires { ⌜ i < mostSlots ⌝ }
-    ensures { λ r. ⌜ r ≡ apartBefore (state .slots) i ⌝ }
+// Whether two slots can be in one record: they are not used with one key, and the more recent one has no higher count of beats.
+fn pair_apart(x: Slot, y: Slot) -> bool
+    ensures { λ r. ⌜ r ≡ pairApart x y ⌝ }
 {
-    let x = state.slots[i];
-    let mut ok = true;
-    let mut j = 0;
-    while j < i {
-        let y = state.slots[j];
-        ok = ok & (!key_twice(x, y) & (!count_ahead(x, y) & !count_ahead(y, x)));
-        j = j + 1;
-    }
-    ok
+    let twice = key_twice(x, y);
+    let ahead = count_ahead(x, y);
+    let behind = count_ahead(y, x);
+    !twice & (!ahead & !behind)
 }
 
-// Whether no two used slots of the first n have one key, and none has a higher count of beats than a less recent one.
+// Whether no two used slots of the first n have one key, and none has a higher count of beats than a less recent one. The record is held by one
+// loop over the pairs of slots: handed on for each slot it would be copied each time.
 fn slots_apart(state: Record, n: usize) -> bool
     requires { ⌜ n ≤ mostSlots ⌝ }
     ensures { λ r. ⌜ r ≡ slotsApart n (state .slots) ⌝ }
 {
     let mut ok = true;
     let mut i = 0;
+    let mut j = 0;
     while i < n {
-        ok = ok & apart_before(state, i);
-        i = i + 1;
+        if j < i {
+            let x = state.slots[i];
+            let y = state.slots[j];
+            ok = ok & pair_apart(x, y);
+            j = j + 1;
+        } else {
+            i = i + 1;
+            j = 0;
+        }
     }
     ok
 }
@@ -264,32 +267,28 @@ fn used_count(state: Record, n: usize) -> u8
     m
 }
 
-// Whether one of the first n slots has the rank r.
-fn is_rank(state: Record, n: usize, r: u8) -> bool
-    requires { ⌜ n ≤ mostSlots ⌝ }
-    ensures { λ b. ⌜ b ≡ isRank n (state .slots) r ⌝ }
-{
-    let mut any = false;
-    let mut i = 0;
-    while i < n {
-        let x = state.slots[i];
-        any = any | (x.rank == r);
-        i = i + 1;
-    }
-    any
-}
-
-// Whether the used slots of the first n are ranked 1, 2, .. without a gap.
+// Whether the used slots of the first n are ranked 1, 2, .. without a gap: of each rank up to their number there is a slot. One loop over ranks and
+// slots, as above.
 fn ranked(state: Record, n: usize) -> bool
     requires { ⌜ n ≤ mostSlots ⌝ }
     ensures { λ r. ⌜ r ≡ ranked n (state .slots) ⌝ }
 {
     let m = used_count(state, n);
     let mut ok = true;
+    let mut any = false;
     let mut r = 0;
+    let mut i = 0;
     while r < m {
-        ok = ok & is_rank(state, n, r + 1);
-        r = r + 1;
+        if i < n {
+            let x = state.slots[i];
+            any = any | (x.rank == r + 1);
+            i = i + 1;
+        } else {
+            ok = ok & any;
+            any = false;
+            r = r + 1;
+            i = 0;
+        }
     }
     ok
 }
