@@ -41,7 +41,7 @@ use Rattle.demands.specs.Wake.{Cut, History, firstSlot, Seating, lowest-
 use Rattle.demands.specs.SplitTaken.{listed}
 use Rattle.demands.specs.Examples.{M}
 use Rattle.demands.specs.Reached.{key, halves, first, second, stranger, strangers, crowd, cells}
-use Rattle.demands.specs.Others.{bearsOwn, bearsOther, withKey, ofAnother, withoutOthers, callsWith, Holding, partHeld, holdingAt, holding, View, viewBy, viewOf, viewBehind, OfSeries, OthersUnseen, WithinToo, Isolated, OnlyByMany, OthersDoNotShow, OthersShow, TwoOthers}
+use Rattle.demands.specs.Others.{bearsOwn, bearsOther, withKey, ofAnother, withoutOthers, callsWith, Holding, partHeld, holdingAt, holding, View, viewBy, viewOf, viewBehind, OfSeries, OthersUnseen, WithinToo, Isolated, OnlyByMany, OthersDoNotShow, OthersShow, TwoOthers, secondView}
 use Rattle.demands.proofs.Lists.{Alike, alike, unlike, alike?, add-old, add-not-nil, first-known}
 use Rattle.demands.proofs.Track.{Track}
 use Rattle.demands.proofs.Calls.{Kept, kept-proper, kept-fresh}
@@ -562,11 +562,16 @@ module _ (n : ℕ) (good : Slots n) (b : ℕ) where
 three : Slots 3
 three = record { some = omega arith; most = omega arith }
 
-pub two-others : (b : ℕ) → TwoOthers b
-unfolding placed joined elementsAfter summary judged readMessage keyFormed lengthFits allBelow anyBelow countBelow find aged closed toFront freed allZero usedFormed slotFormed keysDiffer ranked countsFollow slotsFormed cellPart joinedOctets packetIn step takePart takeMessage
-two-others b = record {
-  start = met 3 three b .start;
-  others-left-out = refl;
-  with-others = refl;
-  without = refl;
-}
+module _ (b : ℕ) where
+  second-alone : viewBehind 3 Command key (cells 3 b) (takes (first b) ∷ []) (second b) ≡ secondView b
+  unfolding placed joined elementsAfter summary judged readMessage keyFormed lengthFits allBelow anyBelow countBelow find aged closed toFront freed allZero usedFormed slotFormed keysDiffer ranked countsFollow slotsFormed cellPart joinedOctets packetIn step takePart takeMessage
+  second-alone = refl
+
+  pub two-others : TwoOthers b
+  unfolding elementsAfter summary judged readMessage
+  two-others = record {
+    start = met 3 three b .start;
+    others-left-out = refl;
+    with-others = same-alone 3 three b ∙ second-alone;
+    without = second-alone;
+  }

@@ -21,9 +21,8 @@ use Rattle.slots.specs.Slots.{find, aged, toFront}
 use Rattle.arrival.specs.Keys.{keyFormed, lengthFits}
 use Rattle.arrival.specs.Message.{judged, readMessage}
 use Rattle.header.specs.Header.{elementsAfter, summary}
-use Rattle.octets.specs.Octets.{placed, sameOctets}
+use Rattle.octets.specs.Octets.{placed}
 use Rattle.packet.specs.Packets.{mostOctets}
-use Rattle.series.specs.Cells.{cellPart}
 use Rattle.series.specs.Calls.{octetsOf}
 use Rattle.demands.specs.Lists.{elem}
 use Rattle.demands.specs.Runs.{Call, Store, outcome, left}
@@ -309,27 +308,49 @@ module _ (b : ℕ) where
   other-brings-so : BringInOrder Command key 3 (λ number. number ∷ []) (otherOrder b) (3 ∷ 3 ∷ 2 ∷ [])
   other-brings-so = first-brought (ofThree b 3) _ 3 _ brings-three (first-brought (ofThree b 3) _ 3 _ brings-three (first-brought (ofThree b 2) _ 2 _ brings-two none-brought))
 
-  one-told : answersOf 1 (occupied b) (oneOrder b) ≡ kept 0 true ∷ kept 0 false ∷ heldAlready 0 ∷ []
-  unfolding elementsAfter summary judged readMessage keyFormed lengthFits allBelow anyBelow countBelow find aged toFront allZero usedFormed slotFormed keysDiffer ranked countsFollow slotsFormed step takePart takeMessage placed cellPart sameOctets
-  one-told = refl
+  -- the answers to 2 and then 3 are computed, and all others follow from them
+  two-told : outcome 1 (occupied b) (ofThree b 2) .answer ≡ kept 0 true
+  unfolding elementsAfter summary judged readMessage keyFormed lengthFits allBelow anyBelow countBelow find aged toFront allZero usedFormed slotFormed keysDiffer ranked countsFollow slotsFormed step takePart takeMessage placed
+  two-told = refl
 
-  other-told : answersOf 1 (occupied b) (otherOrder b) ≡ kept 0 true ∷ heldAlready 0 ∷ kept 0 false ∷ []
-  unfolding elementsAfter summary judged readMessage keyFormed lengthFits allBelow anyBelow countBelow find aged toFront allZero usedFormed slotFormed keysDiffer ranked countsFollow slotsFormed step takePart takeMessage placed cellPart sameOctets
-  other-told = refl
+  then-three : outcome 1 (left (outcome 1 (occupied b) (ofThree b 2))) (ofThree b 3) .answer ≡ kept 0 false
+  unfolding elementsAfter summary judged readMessage keyFormed lengthFits allBelow anyBelow countBelow find aged toFront allZero usedFormed slotFormed keysDiffer ranked countsFollow slotsFormed step takePart takeMessage placed
+  then-three = refl
+
+  three-told : outcome 1 (occupied b) (ofThree b 3) .answer ≡ kept 0 true
+  three-told =
+      either-order 1 Command (occupied b) occupied-any key 3 3 2 3 (2 ∷ []) (3 ∷ []) (ofThree b 2) (ofThree b 3) brings-two brings-three (λ e. omega arith) 0 true two-told 0 false then-three .first-answer
+
+  by-both : (ds : List Call) (m : List ℕ) → BringInOrder Command key 3 (λ number. number ∷ []) ds m → ((number : ℕ) → elem number (2 ∷ 3 ∷ []) ≡ elem number m)
+      → Shuffled 1 (occupied b) (ofThree b 2 ∷ ofThree b 3 ∷ []) ds m
+  by-both ds m brings alike =
+      any-order 1 Command (occupied b) occupied-any key 3 (λ number. number ∷ []) _ ds _ m (first-brought (ofThree b 2) _ 2 _ brings-two (first-brought (ofThree b 3) _ 3 _ brings-three none-brought)) brings alike
+      (both-hold (notComplete (outcome 1 (occupied b) (ofThree b 2) .answer)) _ (ap notComplete two-told)
+      (both-hold (notComplete (outcome 1 (left (outcome 1 (occupied b) (ofThree b 2))) (ofThree b 3) .answer)) true (ap notComplete then-three) refl))
+
+  one-so : Shuffled 1 (occupied b) (ofThree b 2 ∷ ofThree b 3 ∷ []) (oneOrder b) (2 ∷ 3 ∷ 2 ∷ [])
+  one-so = by-both (oneOrder b) (2 ∷ 3 ∷ 2 ∷ []) one-brings-so (λ number. again-two (eqb number 2) (eqb number 3))
+    where
+      again-two : (x y : Bool) → x || (y || false) ≡ x || (y || (x || false))
+      again-two true y = refl
+      again-two false true = refl
+      again-two false false = refl
+
+  other-so : Shuffled 1 (occupied b) (ofThree b 2 ∷ ofThree b 3 ∷ []) (otherOrder b) (3 ∷ 3 ∷ 2 ∷ [])
+  other-so = by-both (otherOrder b) (3 ∷ 3 ∷ 2 ∷ []) other-brings-so (λ number. again-three (eqb number 2) (eqb number 3))
+    where
+      again-three : (x y : Bool) → x || (y || false) ≡ y || (y || (x || false))
+      again-three true true = refl
+      again-three true false = refl
+      again-three false true = refl
+      again-three false false = refl
 
   pub shuffled-so : ShuffledSo b
   shuffled-so = record {
     any-store = occupied-any;
     one-brings = one-brings-so;
     other-brings = other-brings-so;
-    one-answered = one-told;
-    other-answered = other-told;
-    equal = any-order 1 Command (occupied b) occupied-any key 3 (λ number. number ∷ []) (oneOrder b) (otherOrder b) (2 ∷ 3 ∷ 2 ∷ []) (3 ∷ 3 ∷ 2 ∷ []) one-brings-so other-brings-so
-        (λ number. either (eqb number 2) (eqb number 3)) (ap noneComplete one-told) .equal;
+    one-answered = one-so .answered ∙ (λ z. two-told z ∷ unmarked (three-told z) ∷ repeated (two-told z) ∷ []);
+    other-answered = other-so .answered ∙ (λ z. three-told z ∷ repeated (three-told z) ∷ unmarked (two-told z) ∷ []);
+    equal = other-so .equal ∙ sym (one-so .equal);
   }
-    where
-      either : (x y : Bool) → x || (y || (x || false)) ≡ y || (y || (x || false))
-      either true true = refl
-      either true false = refl
-      either false true = refl
-      either false false = refl
