@@ -1,24 +1,24 @@
 -- The three demands hold, for each number of slots, and what was asked of order and repetition.
 use Prim.Native.Nat.{ℕ}
-use Rattle.demands.specs.Runs.{Slots}
+use Rattle.sequences.specs.Runs.{Slots}
 use Rattle.demands.specs.Demands.{Demand1, Demand2, Demand3, OrderAndRepetition}
-use Rattle.demands.proofs.Calls as calls
-use Rattle.demands.proofs.Wake as wake
-use Rattle.demands.proofs.Crowding as crowding
-use Rattle.demands.proofs.Others as others
+use Rattle.sequences.proofs.Calls as calls
+use Rattle.sequences.proofs.Wake as wake
+use Rattle.sequences.proofs.Crowding as crowding
+use Rattle.shuffles.proofs.Others as others
 use Rattle.demands.proofs.Refusing as refusing
-use Rattle.demands.proofs.Orders as orders
-use Rattle.demands.proofs.Twice as twice
-use Rattle.demands.proofs.RoundTrips as trips
-use Rattle.demands.proofs.Checked as checked
-use Rattle.demands.proofs.Silence as silence
-use Rattle.demands.proofs.SplitTaken as split
-use Rattle.demands.proofs.Delivery as delivery
-use Rattle.demands.proofs.Reports as reports
-use Rattle.demands.proofs.Reachable as reachable
-use Rattle.demands.proofs.NeverMade as never
-use Rattle.demands.proofs.Shuffled as shuffled
-use Rattle.demands.proofs.Ussd as ussd
+use Rattle.trips.proofs.Orders as orders
+use Rattle.trips.proofs.Twice as twice
+use Rattle.trips.proofs.RoundTrips as trips
+use Rattle.trips.proofs.Checked as checked
+use Rattle.sequences.proofs.Silence as silence
+use Rattle.sequences.proofs.SplitTaken as split
+use Rattle.sequences.proofs.Delivery as delivery
+use Rattle.trips.proofs.Reports as reports
+use Rattle.sequences.proofs.Reachable as reachable
+use Rattle.sequences.proofs.NeverMade as never
+use Rattle.shuffles.proofs.Shuffled as shuffled
+use Rattle.trips.proofs.Ussd as ussd
 
 pub demand-1 : Demand1
 demand-1 = record {

@@ -39,9 +39,10 @@ use Rattle.report.specs.Reporting as report
 use Rattle.demands.specs.Refusing.{Leaves, unaltered, dropped, TakingRefused, BuildingRefused, ChecksumRefused, WritingRefused, PageRefused, ReportRefused, JudgingRefused, SendingRefused, ClosingRefused, ParsingRefused, AnnouncingRefused, UnfitRefused, MakingRefused, SalvagingRefused, BeatRefused, UssdWritingRefused, UssdChecksumRefused, UssdReadingRefused}
 use Rattle.capture.specs.Captures.{salvaged, mostCapture, salvaging}
 use Rattle.ussd.specs.Ussd as ussd
-use Rattle.demands.specs.Runs.{Slots}
-use Rattle.demands.proofs.Calls.{isPage, taking-any}
-use Rattle.demands.proofs.Capture.{salvages-or-refuses}
+use Rattle.sequences.specs.Runs.{Slots}
+use Rattle.sequences.proofs.Calls.{isPage, taking-any, unfit-taken}
+use Rattle.trips.proofs.Capture.{salvages-or-refuses}
+use Rattle.trips.proofs.Reports.{still-refused}
 
 -- ---- taking
 module _ (n : ℕ) (s : State) (i : Input) (number : ℕ) where
@@ -238,21 +239,12 @@ parsing-refused k c p number e = record {
     none : (y : List ℕ) → shown (readable k c p (outcome.gives y)) ≡ []
     none y = nothing number (measured (fieldsOf k c p)) y (not (wellFormed k p)) (ltb mostOctets (length p)) (againstCheck k (fieldsOf k c p)) e
 
-pub still-refused : {A B : Type 0} (number : ℕ) (x : A) (o : outcome.Outcome B) (a b : Bool) → (refuse 9 when a otherwise refuse 12 when b otherwise outcome.gives x) ≡ outcome.refused number
-    → (refuse 9 when a otherwise refuse 12 when b otherwise o) ≡ outcome.refused number
-still-refused number x o true b e = cc
-still-refused number x o false true e = cc
-still-refused number x o false false e = let z : _≡_ {A = ℕ} 0 1 = cc in absurd (omega arith)
-
 pub announcing-refused : AnnouncingRefused
 unfolding parsing report.responseAnnounces
 announcing-refused p number =
     still-refused number (measured (fieldsOf Response false p)) (outcome.gives (report.announcesAnother (report.statusOf p))) (not (wellFormed Response p)) (ltb mostOctets (length p))
 
 -- ---- bad buffers and records
-unfit-taken : (n : ℕ) (s : State) (i : Input) → unfit n s ≡ true → takeInput n s i ≡ (refuse) 1 s
-unfit-taken n s i e = taking-any n s i ∙ rw e
-
 unfit-into : (size : ℕ) (o : outcome.Outcome (List ℕ)) (buffer : List ℕ) → (length buffer ≡ size → ⊥) → into size o buffer ≡ outcome.lent (outcome.refused 1) buffer
 unfit-into size o buffer ne = rw (ne-eqb (length buffer) size ne)
 

@@ -6,24 +6,24 @@ use Rattle.types.specs.declared.Kind.{Kind}
 use Rattle.packet.specs.Packets.{Fields}
 use Rattle.types.specs.declared.Key.{Key}
 use Rattle.demands.specs.Refusing.{TakingRefused, ParsingRefused, BuildingRefused, ChecksumRefused, WritingRefused, PageRefused, ReportRefused, JudgingRefused, SendingRefused, ClosingRefused, AnnouncingRefused, UnfitRefused, MakingRefused, SalvagingRefused, BeatRefused, UssdReadingRefused, UssdWritingRefused, UssdChecksumRefused}
-use Rattle.demands.specs.Runs.{Slots}
-use Rattle.demands.specs.Orders.{OrderFree}
-use Rattle.demands.specs.Twice.{ReadAsWithout, TakenAsWithout, LastReplaces}
-use Rattle.demands.specs.RoundTrips.{BuildThenRead, CommandTells, ReadThenBuild, AnswersBuild, ReadThenBuildCalls, FixedLengths, ChecksumCovers, ParsesOrRefuses, ParsedIsFormed, BuildsOrRefuses, SplitMessages, SplitPages}
-use Rattle.demands.specs.Checked.{CheckBits, StillCarried}
-use Rattle.demands.specs.Timely.{FewerThanLeastOfAll, FewerThanLeast, InTime}
-use Rattle.demands.specs.Wake.{WakeWindow}
-use Rattle.demands.specs.Coming.{PacketComes}
-use Rattle.demands.specs.Always.{AlwaysFormed, NoKeyTwice}
-use Rattle.demands.specs.Reachable.{Acceptance, RefusedIfNeverMade}
-use Rattle.demands.specs.Crowding.{NeverDisplaced}
-use Rattle.demands.specs.Silence.{Beating, SilentGivenUp}
-use Rattle.demands.specs.Others.{OthersDoNotShow}
-use Rattle.demands.specs.SplitTaken.{MessagesArrive, PagesArrive}
-use Rattle.demands.specs.Delivery.{MessagesDelivered, PagesDelivered, MessagesWritten, PagesWritten}
-use Rattle.demands.specs.Shuffled.{KeptThenHeld, EitherOrder, AnyOrder}
-use Rattle.demands.specs.Ussd.{UssdMessages}
-use Rattle.demands.specs.Reports.{ReportRefusals, NoneLost, NoneLostEither, EditionsAlike, EitherAccepted}
+use Rattle.sequences.specs.Runs.{Slots}
+use Rattle.trips.specs.Orders.{OrderFree}
+use Rattle.trips.specs.Twice.{ReadAsWithout, TakenAsWithout, LastReplaces}
+use Rattle.trips.specs.RoundTrips.{BuildThenRead, CommandTells, ReadThenBuild, AnswersBuild, ReadThenBuildCalls, FixedLengths, ChecksumCovers, ParsesOrRefuses, ParsedIsFormed, BuildsOrRefuses, SplitMessages, SplitPages}
+use Rattle.trips.specs.Checked.{CheckBits, StillCarried}
+use Rattle.sequences.specs.Timely.{FewerThanLeastOfAll, FewerThanLeast, InTime}
+use Rattle.sequences.specs.Wake.{WakeWindow}
+use Rattle.sequences.specs.Coming.{PacketComes}
+use Rattle.sequences.specs.Always.{AlwaysFormed, NoKeyTwice}
+use Rattle.sequences.specs.Reachable.{Acceptance, RefusedIfNeverMade}
+use Rattle.sequences.specs.Crowding.{NeverDisplaced}
+use Rattle.sequences.specs.Silence.{Beating, SilentGivenUp}
+use Rattle.shuffles.specs.Others.{OthersDoNotShow}
+use Rattle.sequences.specs.SplitTaken.{MessagesArrive, PagesArrive}
+use Rattle.sequences.specs.Delivery.{MessagesDelivered, PagesDelivered, MessagesWritten, PagesWritten}
+use Rattle.shuffles.specs.Shuffled.{KeptThenHeld, EitherOrder, AnyOrder}
+use Rattle.trips.specs.Ussd.{UssdMessages}
+use Rattle.trips.specs.Reports.{ReportRefusals, NoneLost, NoneLostEither, EditionsAlike, EitherAccepted}
 
 -- 1. "Every entry point takes every input, does nothing undefined and ends": no public call asks anything of its caller, and each is proved.
 -- "Bad input, bad buffers and a record that the library could not have made are refused by number. A refusal alters no lent buffer and no

@@ -31,7 +31,7 @@ use Rattle.types.specs.declared.SentCommand.{SentCommand}
 use Rattle.types.specs.declared.Outstanding.{Outstanding}
 use Rattle.gateway.specs.Gateway.{commandSent, responseCame}
 use Rattle.ussd.specs.Ussd.{mostString, readUssd, shownUssdData, shownUssdCheck, shownUssdOpaque, writtenUssd, ussdChecksummed}
-use Rattle.demands.specs.Runs.{Slots}
+use Rattle.sequences.specs.Runs.{Slots}
 use Rattle.report.specs.Reporting.{mostReport, reported, writeReport, responseAnnounces}
 use Rattle.capture.specs.Captures.{mostCapture, salvaging}
 

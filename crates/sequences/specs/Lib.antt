@@ -1,0 +1,13 @@
+pub mod Examples
+pub mod Lists
+pub mod Runs
+pub mod Timely
+pub mod Wake
+pub mod Coming
+pub mod Always
+pub mod Reachable
+pub mod Crowding
+pub mod Reached
+pub mod Silence
+pub mod SplitTaken
+pub mod Delivery

@@ -1,0 +1,9 @@
+pub mod Orders
+pub mod Twice
+pub mod Capture
+pub mod RoundTrips
+pub mod Checked
+pub mod Counters
+pub mod Gateway
+pub mod Ussd
+pub mod Reports
