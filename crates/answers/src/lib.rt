@@ -1,18 +1,9 @@
-// Answers as text. An answer is a row of numbers: its name, and what is to be printed behind it, each by its sort; there is one writer. What
-// is printed is held to stored lines; a piece that does not fit is left out, so that every call is safe for any buffer.
+// Answers as text: one writer of rows. What is printed is held to stored lines; a piece that does not fit is left out, so that every call is safe
+// for any buffer.
 pub mod record;
-pub mod rows;
 
+use values::rows::Row;
 ghost use Prim.Native.Nat.{_<_};
-
-// A name is a number, its letters are digits to the base 32: `a` is 1. The sorts have four bits each, the first lowest: 1 to 5 so many octets as
-// digits, 6 a decimal number, 7 a name; 8 to 10 a number and so many octets of the first, second, third buffer; 12 to 14 a part of it, from
-// v / 65536 on so many octets as v % 65536.
-pub struct Row {
-    pub name: u64,
-    pub sorts: u64,
-    pub values: [u64; 8],
-}
 
 // ---- pieces
 // Puts a piece at a place and says where the text then ends.

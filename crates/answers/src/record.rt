@@ -1,16 +1,16 @@
 // What a record and the tables hold, as `record`, `slot`, `counters` and `outstanding` print it.
 use crate::number;
-use crate::rows;
 use crate::say;
 use types::COUNTER_ENTRIES;
 use types::OUTSTANDING_ENTRIES;
 use types::PARTS;
 use types::SLOTS;
 use types::Slot;
+use values::rows;
 ghost use Prim.Native.Nat.{_≤_, _<_};
 
 // Prints a row that has no octets of buffers.
-pub fn alone(row: crate::Row, text: &mut [u8], at: usize) -> usize {
+pub fn alone(row: rows::Row, text: &mut [u8], at: usize) -> usize {
     let none = [0u8; 0];
     crate::print(row, &none, &none, &none, text, at)
 }
@@ -62,6 +62,12 @@ pub fn slot(x: Slot, text: &mut [u8], at: usize) -> usize {
         i += 1;
     }
     at
+}
+
+// `slot I` and what it then holds.
+pub fn slot_at(i: usize, x: Slot, text: &mut [u8], at: usize) -> usize {
+    let at = alone(rows::one(rows::SLOT, 6, i as u64), text, at);
+    slot(x, text, at)
 }
 
 // `record KIND`, and `; SLOT` for each slot.

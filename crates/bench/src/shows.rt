@@ -1,8 +1,8 @@
 // Questions on what is kept: the record, the tables, and what is in a buffer.
-use answers::Row;
 use answers::record;
-use answers::rows;
 use changes::Bench;
+use values::rows;
+use values::rows::Row;
 use words::line::Line;
 use words::table;
 ghost use Prim.Native.Nat.{_≤_};

@@ -2,15 +2,10 @@
 // library could not have made can be tried. What the slot holds is held to stored lines.
 use crate::Heard;
 use answers::record;
-use answers::rows;
 use changes::Bench;
-use lines::fields::pair_at;
-use lines::fields::sender_of;
-use types::Key;
 use types::Record;
 use types::Slot;
 use words::line::Line;
-use words::line::VALUES;
 ghost use mathlib.Core.Path.{_≡_};
 ghost use mathlib.Core.Bool.{true};
 ghost use Prim.Native.Nat.{_<_};
@@ -19,36 +14,6 @@ ghost use Rattle.skelmarix.specs.Rules.{withSlots};
 ghost use Rattle.words.specs.Line.{gathered};
 ghost use Rattle.changes.specs.Kept.{withRecord};
 ghost use Rattle.bench.specs.Lines.{SlotPut};
-
-// SENDER, SERIAL and IDENTIFIER are the first eight octets of the line.
-fn key_of(values: [u64; VALUES], fields: &[u8]) -> Key {
-    Key {
-        sender: sender_of(fields),
-        width: (values[4] % 256) as u8,
-        reference: (values[5] % 65536) as u16,
-        serial: types::SerialNumber(pair_at(fields, 4)),
-        identifier: types::MessageIdentifier(pair_at(fields, 6)),
-    }
-}
-
-fn slot_of(values: [u64; VALUES], fields: &[u8], p: words::line::Parts) -> Slot {
-    let lengths = p.lengths;
-    let held = p.held;
-    Slot {
-        rank: (values[1] % 256) as u8,
-        beats: (values[2] % 256) as u8,
-        key: key_of(values, fields),
-        total: (values[8] % 256) as u8,
-        lengths: lengths,
-        held: held,
-    }
-}
-
-// `slot I` and what it then holds.
-fn say_slot(i: usize, x: Slot, text: &mut [u8], at: usize) -> usize {
-    let at = record::alone(rows::one(rows::SLOT, 6, i as u64), text, at);
-    record::slot(x, text, at)
-}
 
 // The record with a slot put.
 fn put_slot(r: Record, i: usize, x: Slot) -> Record
@@ -65,7 +30,10 @@ fn put(b: Bench, i: usize, x: Slot, text: &mut [u8], at: usize) -> Heard
     ensures { λ r. ⌜ (r .understood ≡ true) × (r .bench ≡ withRecord b (withSlots (b .«record») (set (b .«record» .slots) i x))) ⌝ }
 {
     let after = put_slot(b.record, i, x);
-    crate::answered(changes::with_record(b, after), say_slot(i, x, text, at))
+    crate::answered(
+        changes::with_record(b, after),
+        record::slot_at(i, x, text, at),
+    )
 }
 
 // A line whose words before the parts are understood.
@@ -77,7 +45,7 @@ pub(crate) fn slot_line(b: Bench, l: Line, line: &[u8], text: &mut [u8], at: usi
     let i = crate::first(values);
     if i < types::SLOTS {
         if parts.understood {
-            return put(b, i, slot_of(values, line, parts), text, at);
+            return put(b, i, values::slot::slot_of(values, line, parts), text, at);
         }
     }
     crate::unanswered(b, at)

@@ -1,7 +1,7 @@
 -- What the proofs of `changes` cite: one law for each return, over plain variables.
 use Prim.Native.Nat.{ℕ, _-_, _%_, _≤_, _<_}
 use mathlib.Core.Path.{_≡_, refl, ap, _∙_}
-use mathlib.Core.Bool.{Bool, true, false, not, cond, _&&_}
+use mathlib.Core.Bool.{Bool, true, false, not, _&&_}
 use mathlib.Core.List.{List, _++_}
 use native.Mathlib.Omega.{arith}
 use lib.ListN.{length, take, drop, getD, set, replicate}
@@ -11,15 +11,8 @@ use borrow.Author.Tests.{eq-eqb, ne-eqb, lt-ltb, le-ltb, ltb-true}
 use Rattle.types.specs.declared.Kind.{Kind}
 use Rattle.types.specs.declared.Kind.the-variants.{Command}
 use Rattle.types.specs.declared.Record.{Record}
-use Rattle.types.specs.declared.Tar.{Tar}
-use Rattle.types.specs.declared.Cntr.{Cntr}
 use Rattle.types.specs.declared.Counters.{Counters}
-use Rattle.types.specs.declared.CounterEntry.{CounterEntry}
-use Rattle.types.specs.declared.JudgedCounter.{JudgedCounter}
-use Rattle.types.specs.declared.SentCommand.{SentCommand}
 use Rattle.types.specs.declared.Outstanding.{Outstanding}
-use Rattle.types.specs.declared.Sending.{Sending}
-use Rattle.types.specs.declared.Closing.{Closing}
 use Rattle.types.specs.declared.Captured.{Captured}
 use Rattle.types.specs.declared.Captured.the-variants.{UserData, Page, Unsound}
 use Rattle.types.specs.declared.Refusal.{Refusal}
@@ -27,8 +20,10 @@ use Rattle.types.specs.declared.Beating.{Beating}
 use Rattle.types.specs.declared.Making.{Making}
 use Rattle.types.specs.declared.Making.the-variants.{Fresh, Refused}
 use Rattle.types.specs.Refusals.{refused, gives}
-use Rattle.skelmarix.specs.Rules.{defaultSlots, isSlotNumber, cellsSize, Beside, beside, toldMaking, making, freshRecord, Answer, state, after, takeMessage, takePage, beaten, toldBeating, beat, noCounters, Assessed, assessed, toldJudgement, judgeCounter, sentCommand, noCommands, Fate, Settled, settled, toldSending, toldClosing, commandSent, responseCame, recordIn}
-use Rattle.lines.specs.Lent.{lentOf, kindBy, senderOf, tarOf, cntrOf}
+use Rattle.skelmarix.specs.Rules.{defaultSlots, isSlotNumber, cellsSize, Beside, beside, toldMaking, making, freshRecord, Answer, state, after, takeMessage, takePage, beaten, toldBeating, beat, noCounters, noCommands, recordIn}
+use Rattle.values.specs.Fields.{kindBy, senderOf}
+use Rattle.values.specs.Tables.{countersBy, commandsAfter}
+use Rattle.lines.specs.Lent.{lentOf}
 use Rattle.changes.specs.declared.Bench.{Bench}
 use Rattle.changes.specs.Kept as rule
 use Rattle.changes.specs.Kept.{held, rowChanges}
@@ -172,34 +167,15 @@ module _ (row : ℕ) (e : (ltb 7 row && ltb row 11) ≡ true) where
   pub lends-high : row - 8 < 3
   lends-high = omega (arith, lends-low, ltb-true row 11 (both (ltb 7 row) (ltb row 11) e .1))
 
--- ---- counters
-module _ (row count n : ℕ) (octets : List ℕ) (c d : Counters) where
-  pub after-entry : (a : Counters) (e : CounterEntry) → row ≡ 53 → e ≡ rule.entryOf octets → a ≡ rule.withEntry c (n % 16) e → d ≡ a
-      → d ≡ rule.countersBy row count n octets c
-  after-entry a e r is w f = rw (eq-eqb row 53 r, ← is) (f ∙ w)
-
-  module _ (z : row ≡ 53 → ⊥) where
-    pub after-count : (a : Counters) → row ≡ 54 → a ≡ cond (eqb count 0) c (rule.withInUse c (n % 256)) → d ≡ a → d ≡ rule.countersBy row count n octets c
-    after-count a r w f = rw (ne-eqb row 53 z, eq-eqb row 54 r) (f ∙ w)
-
-    pub after-judging : (a : JudgedCounter) → (row ≡ 54 → ⊥) → assessed (toldJudgement (a .answer)) (a .counters) ≡ judgeCounter c octets
-        → a .counters ≡ rule.countersBy row count n octets c
-    after-judging a y e = rw (ne-eqb row 53 z, ne-eqb row 54 y) (ap (λ (x : Assessed). x .counters) e)
-
-pub entry-told : (o rest : List ℕ) (t : Tar) (n : Cntr) → rest ≡ drop 3 o → t ≡ tarOf o → n ≡ cntrOf rest → record { tar = t; cntr = n } ≡ rule.entryOf o
-entry-told o rest t n e f g = rw (f, g, e)
-
-pub in-use-same : (count n : ℕ) (c : Counters) → count ≡ 0 → c ≡ cond (eqb count 0) c (rule.withInUse c (n % 256))
-in-use-same count n c e = rw (eq-eqb count 0 e)
-
-pub in-use-other : (count n : ℕ) (c : Counters) → (count ≡ 0 → ⊥) → rule.withInUse c (n % 256) ≡ cond (eqb count 0) c (rule.withInUse c (n % 256))
-in-use-other count n c f = rw (ne-eqb count 0 f)
-
+-- ---- counters, outstanding commands and the beat, by the row
 pub counters-told : (b x : Bench) (c d : Counters) → x ≡ rule.withCounters b c → c ≡ d → x ≡ rule.withCounters b d
 counters-told b x c d e f = rw (← f) e
 
+pub commands-told : (b x : Bench) (t u : Outstanding) → x ≡ rule.withOutstanding b t → t ≡ u → x ≡ rule.withOutstanding b u
+commands-told b x t u e f = rw (← f) e
+
 module _ (row count n : ℕ) (octets : List ℕ) (b x : Bench) where
-  pub noted-counters : (leb 53 row && leb row 55) ≡ true → x ≡ rule.withCounters b (rule.countersBy row count n octets (b .counters))
+  pub noted-counters : (leb 53 row && leb row 55) ≡ true → x ≡ rule.withCounters b (countersBy row count n octets (b .counters))
       → x ≡ rule.keptNotes row count n octets b
   noted-counters e f = rw e f
 
@@ -208,50 +184,12 @@ module _ (row count n : ℕ) (octets : List ℕ) (b x : Bench) where
     noted-beat f g = rw (e, eq-eqb row 56 f) g
 
     module _ (z : row ≡ 56 → ⊥) where
-      pub noted-commands : (leb 57 row && leb row 59) ≡ true → x ≡ rule.withOutstanding b (rule.commandsAfter row count n octets (b .outstanding))
+      pub noted-commands : (leb 57 row && leb row 59) ≡ true → x ≡ rule.withOutstanding b (commandsAfter row count n octets (b .outstanding))
           → x ≡ rule.keptNotes row count n octets b
       noted-commands f g = rw (e, ne-eqb row 56 z, f) g
 
       pub noted-lent : (c : Bench) → (leb 57 row && leb row 59) ≡ false → c ≡ rule.lentNoted row n b → x ≡ c → x ≡ rule.keptNotes row count n octets b
       noted-lent c y f g = rw (e, ne-eqb row 56 z, y) (g ∙ f)
-
--- ---- outstanding commands
-pub command-told : (o a d : List ℕ) (s : ℕ) (t : Tar) (n : Cntr) → s ≡ senderOf o → a ≡ drop 4 o → d ≡ drop 7 o → t ≡ tarOf a → n ≡ cntrOf d
-    → record { sender = s; tar = t; cntr = n } ≡ rule.commandOf o
-command-told o a d s t n e f g h i = rw (e, h, i, f, g)
-
-pub sent-told : (t u : Outstanding) (o : List ℕ) (c : SentCommand) (a : Sending) → c ≡ rule.commandOf o
-    → settled (toldSending a) u ≡ commandSent t (sentCommand (c .sender) (c .tar) (c .cntr)) → u ≡ commandSent t (rule.commandOf o) .1
-sent-told t u o c a e f = ap (λ (x : Settled Unit). x .1) (rw e at f)
-
-pub came-told : (t u : Outstanding) (o p : List ℕ) (s : ℕ) (a : Closing) → s ≡ senderOf o → p ≡ drop 4 o
-    → settled (toldClosing a) u ≡ responseCame t s p → u ≡ responseCame t (senderOf o) (drop 4 o) .1
-came-told t u o p s a e f g = ap (λ (x : Settled Fate). x .1) (rw (e, f) at g)
-
-module _ (count n : ℕ) (e : SentCommand) (t : Outstanding) where
-  pub written-none : count ≡ 0 → t ≡ rule.tableWritten count n e t
-  written-none z = rw (eq-eqb count 0 z)
-
-  module _ (z : count ≡ 0 → ⊥) where
-    pub written-count : count ≡ 1 → record { count = n % 256; entries = t .entries } ≡ rule.tableWritten count n e t
-    written-count y = rw (ne-eqb count 0 z, eq-eqb count 1 y)
-
-    pub written-entry : (count ≡ 1 → ⊥) → record { count = t .count; entries = set (t .entries) (n % 8) e } ≡ rule.tableWritten count n e t
-    written-entry y = rw (ne-eqb count 0 z, ne-eqb count 1 y)
-
-module _ (row count n : ℕ) (octets : List ℕ) (t u : Outstanding) where
-  pub after-sent : row ≡ 57 → u ≡ commandSent t (rule.commandOf octets) .1 → u ≡ rule.commandsAfter row count n octets t
-  after-sent e f = rw (eq-eqb row 57 e) f
-
-  module _ (z : row ≡ 57 → ⊥) where
-    pub after-answered : row ≡ 58 → u ≡ responseCame t (senderOf octets) (drop 4 octets) .1 → u ≡ rule.commandsAfter row count n octets t
-    after-answered e f = rw (ne-eqb row 57 z, eq-eqb row 58 e) f
-
-    pub after-written : (c : SentCommand) → (row ≡ 58 → ⊥) → c ≡ rule.commandOf octets → u ≡ rule.tableWritten count n c t → u ≡ rule.commandsAfter row count n octets t
-    after-written c y e f = rw (ne-eqb row 57 z, ne-eqb row 58 y, ← e) f
-
-pub commands-told : (b x : Bench) (t u : Outstanding) → x ≡ rule.withOutstanding b t → t ≡ u → x ≡ rule.withOutstanding b u
-commands-told b x t u e f = rw (← f) e
 
 -- ---- by the row
 module _ (row count n : ℕ) (octets : List ℕ) (b c : Bench) (cells output cells′ output′ : List ℕ) where
@@ -278,6 +216,17 @@ module _ (row count n : ℕ) (octets : List ℕ) (b c : Bench) (cells output cel
       unfolding rowChanges
       changed-notes z e = rw (← is, le-ltb way 3 l, le-ltb row 6 k, ne-eqb row 6 z, ← e)
 
+pub ruleset noting = (
+  needs,
+  note-lends,
+  note-right,
+  note-number,
+  note-slots,
+  note-none,
+  lends-low,
+  lends-high,
+)
+
 pub ruleset steps = (
   needs,
   start-told,
@@ -292,40 +241,18 @@ pub ruleset steps = (
   own-page,
   meant-told,
   taken-told,
-  note-lends,
-  note-right,
-  note-number,
-  note-slots,
-  note-none,
   fresh-made,
   fresh-refused,
   asked-five,
   asked-less,
   asked-most,
   counted,
-  lends-low,
-  lends-high,
-  after-entry,
-  after-count,
-  after-judging,
-  entry-told,
-  in-use-same,
-  in-use-other,
   counters-told,
   noted-counters,
   noted-beat,
   noted-commands,
   noted-lent,
   beat-told,
-  command-told,
-  sent-told,
-  came-told,
-  written-none,
-  written-count,
-  written-entry,
-  after-sent,
-  after-answered,
-  after-written,
   commands-told,
   changed-takes,
   changed-fresh,

@@ -10,12 +10,12 @@ use Rattle.types.specs.declared.Kind.the-variants.{Command}
 use Rattle.types.specs.declared.Record.{Record}
 use Rattle.types.specs.declared.Captured.{Captured}
 use Rattle.types.specs.declared.Captured.the-variants.{UserData, Page, Unsound}
-use Rattle.types.specs.declared.CounterEntry.{CounterEntry}
 use Rattle.types.specs.declared.Counters.{Counters}
-use Rattle.types.specs.declared.SentCommand.{SentCommand}
 use Rattle.types.specs.declared.Outstanding.{Outstanding}
-use Rattle.skelmarix.specs.Rules.{mostOctets, cellsSize, defaultSlots, isSlotNumber, freshRecord, State, After, state, takeMessage, takePage, beat, noCounters, judgeCounter, sentCommand, noCommands, commandSent, responseCame, recordHead, recordIn}
-use Rattle.lines.specs.Lent.{right, lentOf, kindBy, senderOf, tarOf, cntrOf}
+use Rattle.skelmarix.specs.Rules.{mostOctets, cellsSize, defaultSlots, isSlotNumber, freshRecord, State, After, state, takeMessage, takePage, beat, noCounters, noCommands, recordHead, recordIn}
+use Rattle.values.specs.Fields.{kindBy, senderOf}
+use Rattle.values.specs.Tables.{countersBy, commandsAfter}
+use Rattle.lines.specs.Lent.{right, lentOf}
 use Rattle.changes.specs.declared.Bench.{Bench}
 
 -- ---- what is held
@@ -106,41 +106,6 @@ lentNoted row n b =
     (cond (eqb row 11) (withLent b allRight)
     (cond (eqb row 12) (nowNumbered b)
     (cond (eqb row 50) (withRecord b (withCount (b .«record») (n % 256))) b)))
-
--- the table with an entry as the line has it, and with another count in use
-abbrev pub entryOf : List ℕ → CounterEntry
-entryOf octets = record { tar = tarOf octets; cntr = cntrOf (drop 3 octets) }
-
-abbrev pub withEntry : Counters → ℕ → CounterEntry → Counters
-withEntry c i e = record { count = c .count; entries = set (c .entries) i e }
-
-abbrev pub withInUse : Counters → ℕ → Counters
-withInUse c n = record { count = n; entries = c .entries }
-
--- row 53 `counter I TAR CNTR`, row 54 `counters N` or `counters`, row 55 `judge PACKET`
-abbrev pub countersBy : ℕ → ℕ → ℕ → List ℕ → Counters → Counters
-countersBy row count n octets c =
-    cond (eqb row 53) (withEntry c (n % 16) (entryOf octets))
-    (cond (eqb row 54) (cond (eqb count 0) c (withInUse c (n % 256)))
-    (judgeCounter c octets .counters))
-
--- the command of a line: SENDER, TAR and CNTR are its octets
-abbrev pub commandOf : List ℕ → SentCommand
-commandOf o = sentCommand (senderOf o) (tarOf (drop 4 o)) (cntrOf (drop 7 o))
-
--- with another count in use, or with an entry as it stands, by how many words the line has
-abbrev pub tableWritten : ℕ → ℕ → SentCommand → Outstanding → Outstanding
-tableWritten count n e t =
-    cond (eqb count 0) t
-    (cond (eqb count 1) (record { count = n % 256; entries = t .entries })
-    (record { count = t .count; entries = set (t .entries) (n % 8) e }))
-
--- row 57 `sent SENDER TAR CNTR`, row 58 `answered SENDER PACKET`, row 59 `outstanding`, `outstanding N` and `outstanding I SENDER TAR CNTR`
-abbrev pub commandsAfter : ℕ → ℕ → ℕ → List ℕ → Outstanding → Outstanding
-commandsAfter row count n octets t =
-    cond (eqb row 57) (commandSent t (commandOf octets) .1)
-    (cond (eqb row 58) (responseCame t (senderOf octets) (drop 4 octets) .1)
-    (tableWritten count n (commandOf octets) t))
 
 -- the lines that leave cells and output as they are; row 56 `beat LIMIT`
 abbrev pub keptNotes : ℕ → ℕ → ℕ → List ℕ → Bench → Bench

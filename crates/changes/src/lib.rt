@@ -1,17 +1,16 @@
 // What is kept from line to line, and the lines that change it: taking, a fresh record, filling, lending, numbering, beats, counters,
 // outstanding commands.
-mod commands;
-mod counters;
 mod notes;
 
-use answers::rows;
 use types::Record;
+use values::rows;
 use words::table;
 ghost use mathlib.Core.Path.{_≡_};
 ghost use Prim.Native.Nat.{_<_, _≤_};
 ghost use lib.ListN.{length, getD, replicate};
 ghost use Rattle.skelmarix.specs.Rules.{cellsSize, state, after, toldAnswer};
-ghost use Rattle.lines.specs.Lent.{kindBy, lentOf};
+ghost use Rattle.values.specs.Fields.{kindBy};
+ghost use Rattle.lines.specs.Lent.{lentOf};
 ghost use Rattle.changes.specs.Kept as rule;
 ghost use Rattle.changes.specs.Kept.{atStart, held, called, heldTaken, wayOf, ownAt, meant, rowChanges, withRecord, slotsAsked, freshMade};
 
@@ -28,7 +27,7 @@ pub struct Bench {
 // What is kept afterwards, and the answer.
 pub struct Made {
     pub bench: Bench,
-    pub row: answers::Row,
+    pub row: rows::Row,
 }
 
 // What is kept before the first line: a fresh record for commands, no counters, and no commands.
@@ -95,7 +94,7 @@ fn call(
 {
     let own = skelmarix::own_octets(octets, at);
     if way == table::MESSAGE {
-        return skelmarix::take_message(r, lines::fields::sender_of(octets), own, cells, output);
+        return skelmarix::take_message(r, values::fields::sender_of(octets), own, cells, output);
     }
     skelmarix::take_page(r, own, cells, output)
 }
@@ -162,7 +161,7 @@ fn slots_asked(count: usize, n: usize) -> u8
 fn fresh(response: bool, n: u8, b: Bench, cells: &mut [u8], output: &mut [u8]) -> Made
     ensures { λ r. ⌜ held (r .bench) (now (cells .exit)) (now (output .exit)) ≡ freshMade (kindBy response) n (held b (now (cells .entry)) (now (output .entry))) ⌝ }
 {
-    let m = skelmarix::fresh_record_with(lines::fields::kind_of(response), n);
+    let m = skelmarix::fresh_record_with(values::fields::kind_of(response), n);
     let answer = m.answer;
     let after = m.record;
     match answer {
@@ -211,7 +210,7 @@ pub fn change(
         return fresh(row == table::FRESH_RESPONSE, slots, b, cells, output);
     }
     if row == table::FILL {
-        fill_both(lines::fields::octet(octets, 0), cells, output);
+        fill_both(values::fields::octet(octets, 0), cells, output);
         return notes::named(b, row, n);
     }
     notes::noted(row, count, n, octets, b)

@@ -3,14 +3,15 @@
 use crate::Bench;
 use crate::Made;
 use crate::with_record;
-use answers::rows;
+use values::rows;
 use words::table;
 ghost use mathlib.Core.Path.{_≡_};
 ghost use Prim.Native.Nat.{_<_, _%_};
 ghost use lib.ListN.{set};
 ghost use Rattle.skelmarix.specs.Rules.{beat};
+ghost use Rattle.values.specs.Tables.{countersBy, commandsAfter};
 ghost use Rattle.changes.specs.Kept as rule;
-ghost use Rattle.changes.specs.Kept.{lentNoted, withRecord, withCount, withLent, withCounters, countersBy, withOutstanding, commandsAfter};
+ghost use Rattle.changes.specs.Kept.{lentNoted, withRecord, withCount, withLent, withCounters, withOutstanding};
 
 fn lend(b: Bench, i: usize, n: usize) -> Bench
     requires { ⌜ i < 3 ⌝ }
@@ -52,7 +53,7 @@ fn note(row: usize, n: usize, b: Bench) -> Bench
 }
 
 // What a line answers that took nothing.
-fn answer_of(row: usize, n: usize) -> answers::Row {
+fn answer_of(row: usize, n: usize) -> rows::Row {
     if row == table::FILL {
         return rows::plain(rows::FILLED);
     }
@@ -87,7 +88,7 @@ fn with_counters(b: Bench, c: types::Counters) -> Bench
 fn counted(row: usize, count: usize, n: usize, octets: &[u8], b: Bench) -> Made
     ensures { λ r. ⌜ r .bench ≡ withCounters b (countersBy row count n (now (octets .entry)) (b .counters)) ⌝ }
 {
-    let j = crate::counters::after(row, count, n, octets, b.counters);
+    let j = values::counters::after(row, count, n, octets, b.counters);
     let answer = j.answer;
     let table = j.counters;
     Made {
@@ -108,7 +109,7 @@ fn with_outstanding(b: Bench, t: types::Outstanding) -> Bench
 fn commanded(row: usize, count: usize, n: usize, octets: &[u8], b: Bench) -> Made
     ensures { λ r. ⌜ r .bench ≡ withOutstanding b (commandsAfter row count n (now (octets .entry)) (b .outstanding)) ⌝ }
 {
-    let l = crate::commands::after(row, count, n, octets, b.outstanding);
+    let l = values::commands::after(row, count, n, octets, b.outstanding);
     let table = l.outstanding;
     let answer = l.row;
     Made {

@@ -1,35 +1,20 @@
 -- What the proofs of `lines` cite, over plain variables.
-use Prim.Native.Nat.{ℕ, zero, suc, _+_, _*_, _≤_, _<_}
+use Prim.Native.Nat.{ℕ, zero, suc, _+_, _≤_, _<_}
 use mathlib.Core.Path.{_≡_, refl, sym, ap, _∙_}
 use mathlib.Core.List.{List, [], _∷_, _++_}
 use native.Mathlib.Omega.{arith}
 use native.Mathlib.Numerals.{add-one}
-use lib.ListN.{length, take, getD, set, replicate, length-set, List·getD-eq-default}
+use lib.ListN.{length, take, set, replicate, length-set}
 use lib.Seq.{take-suc-set, take-length}
 use borrow.Author.Needs.{needs}
 use borrow.Author.Tests.{eq-eqb, ne-eqb}
-use Rattle.skelmarix.specs.Rules.{numberOf}
-use Rattle.lines.specs.Lent.{wantedOf, senderOf, tarOf, cntrOf}
+use Rattle.lines.specs.Lent.{wantedOf}
 
 pub wanted-right : (n proper : ℕ) → n ≡ 65535 → proper ≡ wantedOf n proper
 wanted-right n proper e = rw (eq-eqb n 65535 e)
 
 pub wanted-other : (n proper : ℕ) → (n ≡ 65535 → ⊥) → n ≡ wantedOf n proper
 wanted-other n proper f = rw (ne-eqb n 65535 f)
-
-pub no-octet : (o : List ℕ) (i : ℕ) → length o ≤ i → 0 ≡ getD o i 0
-no-octet o i l = sym (List·getD-eq-default o 0 l)
-
-pub sender-told : (o : List ℕ) (a b c d h l : ℕ) → a ≡ getD o 0 0 → b ≡ getD o 1 0 → c ≡ getD o 2 0 → d ≡ getD o 3 0
-    → h ≡ numberOf a b → l ≡ numberOf c d → h * 65536 + l ≡ senderOf o
-sender-told o a b c d h l e f g k m n = rw (m, n, e, f, g, k)
-
-pub tar-told : (o : List ℕ) (a b c : ℕ) → a ≡ getD o 0 0 → b ≡ getD o 1 0 → c ≡ getD o 2 0 → (a, b, c) ≡ tarOf o
-tar-told o a b c e f g = rw (e, f, g)
-
-pub cntr-told : (o : List ℕ) (a b c d e : ℕ) → a ≡ getD o 0 0 → b ≡ getD o 1 0 → c ≡ getD o 2 0 → d ≡ getD o 3 0 → e ≡ getD o 4 0
-    → (a, b, c, d, e) ≡ cntrOf o
-cntr-told o a b c d e f g h k l = rw (f, g, h, k, l)
 
 -- ---- filling
 -- up to i every octet is x
@@ -64,10 +49,6 @@ pub ruleset steps = (
   needs,
   wanted-right,
   wanted-other,
-  no-octet,
-  sender-told,
-  tar-told,
-  cntr-told,
   filled-none,
   filled-more,
   filled-all,

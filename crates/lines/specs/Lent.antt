@@ -1,13 +1,7 @@
--- How much of a buffer is lent, and what a line's fields say to the calls that a rule cites.
-use Prim.Native.Nat.{ℕ, _+_, _*_, min}
-use mathlib.Core.Bool.{Bool, cond}
-use mathlib.Core.List.{List}
+-- How much of a buffer is lent.
+use Prim.Native.Nat.{ℕ, min}
+use mathlib.Core.Bool.{cond}
 use lib.Dec.{eqb}
-use lib.ListN.{getD}
-use Rattle.types.specs.declared.Tar.{Tar}
-use Rattle.types.specs.declared.Cntr.{Cntr}
-use Rattle.types.specs.declared.Kind.{Kind}
-use Rattle.types.specs.declared.Kind.the-variants.{Command, Response}
 
 -- a number of octets lent that stands for the right one
 abbrev pub right : ℕ
@@ -19,17 +13,3 @@ wantedOf n proper = cond (eqb n right) proper n
 
 abbrev pub lentOf : ℕ → ℕ → ℕ → ℕ
 lentOf n proper all = min (wantedOf n proper) all
-
-abbrev pub kindBy : Bool → Kind
-kindBy response = cond response Response Command
-
--- the sender is the number of the first four octets
-abbrev pub senderOf : List ℕ → ℕ
-senderOf o = (getD o 0 0 * 256 + getD o 1 0) * 65536 + (getD o 2 0 * 256 + getD o 3 0)
-
--- a TAR is the first three octets, a CNTR the first five
-abbrev pub tarOf : List ℕ → Tar
-tarOf o = (getD o 0 0, getD o 1 0, getD o 2 0)
-
-abbrev pub cntrOf : List ℕ → Cntr
-cntrOf o = (getD o 0 0, getD o 1 0, getD o 2 0, getD o 3 0, getD o 4 0)

@@ -1,13 +1,13 @@
 // Lines on building.
-use crate::fields::cntr_of;
-use crate::fields::octet;
-use crate::fields::tar_of;
-use answers::Row;
-use answers::rows;
 use skelmarix::first_octets;
 use skelmarix::own_octets;
 use types::Clear;
 use types::Written;
+use values::fields::cntr_of;
+use values::fields::octet;
+use values::fields::tar_of;
+use values::rows;
+use values::rows::Row;
 use words::table;
 ghost use Prim.Native.Nat.{_≤_};
 

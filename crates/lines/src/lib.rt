@@ -1,15 +1,14 @@
 // Lines that leave alone what is kept: calls on packets, arrivals, parts and reports. Each is known by its row of the table, and its octets are one
-// word's behind the other's (`fields`).
+// word's behind the other's (`values::fields`).
 mod build;
-pub mod fields;
 mod packets;
 mod parts;
 
-use answers::Row;
-use fields::octet;
 pub use packets::say_packet;
 use types::CHECKSUM_OCTETS;
 use types::PACKET_OCTETS;
+use values::fields::octet;
+use values::rows::Row;
 use words::line::Line;
 use words::table;
 ghost use mathlib.Core.Path.{_≡_};

@@ -1,7 +1,7 @@
 // Lines on packets: parsing, showing, checksum octets.
-use answers::Row;
 use answers::print;
-use answers::rows;
+use values::rows;
+use values::rows::Row;
 use words::table;
 
 // What a command parses to, or its parts.

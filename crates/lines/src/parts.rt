@@ -1,13 +1,13 @@
 // Lines on arrivals, on splitting and on reports: what one message or page brings, one part of a packet written, and what goes out of a response.
-use crate::fields::kind_of;
-use crate::fields::narrow;
-use crate::fields::octet;
-use crate::fields::pair_at;
-use crate::fields::sender_of;
-use answers::Row;
-use answers::rows;
 use skelmarix::own_octets;
 use types::WrittenPart;
+use values::fields::kind_of;
+use values::fields::narrow;
+use values::fields::octet;
+use values::fields::pair_at;
+use values::fields::sender_of;
+use values::rows;
+use values::rows::Row;
 use words::line::Line;
 use words::line::VALUES;
 use words::table;

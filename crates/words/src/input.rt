@@ -116,9 +116,20 @@ fn left(i: Input) -> usize {
     0
 }
 
+// Moves what is from a place on to the start.
+fn slide(piece: &mut [u8], from: usize) {
+    let mut i = from;
+    let mut to = 0;
+    while i < piece.len() {
+        piece[to] = piece[i];
+        i += 1;
+        to += 1;
+    }
+}
+
 // Keeps the start of a line that did not end; the start of one that is too long is gone.
 fn keep(i: Input, piece: &mut [u8]) -> Input {
-    crate::piece::slide(piece, i.from);
+    slide(piece, i.from);
     let mut u = i;
     u.from = 0;
     u.count = left(i);

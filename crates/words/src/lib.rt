@@ -1,7 +1,6 @@
 // A line's words, read from the front: blanks passed, a name or a number, octets. What a whole line says is read by `line::read`.
 pub mod input;
 pub mod line;
-pub mod piece;
 pub mod table;
 
 ghost use mathlib.Core.Path.{_≡_};
