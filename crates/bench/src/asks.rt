@@ -2,7 +2,6 @@
 use crate::shows;
 use changes::Made;
 use words::line::Line;
-use words::table;
 
 // Prints the answer of a line, with what was made of it.
 pub(crate) fn say<'a>(
@@ -18,7 +17,7 @@ pub(crate) fn say<'a>(
     if shows::is_shown(l.row) {
         return shows::kept(l.row, made.bench, text, at);
     }
-    if (table::COMMAND <= l.row) & (l.row <= table::SHOW_CIPHERED) {
+    if lines::is_packet(l.row) {
         return lines::say_packet(l.row, octets, text, at);
     }
     let lent = made.bench.lent;

@@ -1,4 +1,4 @@
-// Lines on building.
+// Lines on building: a packet, or a USSD string.
 use skelmarix::first_octets;
 use skelmarix::own_octets;
 use types::Clear;
@@ -20,17 +20,19 @@ fn clear_of(fields: &[u8]) -> Clear {
     }
 }
 
-// SPI, KIC, KID, TAR, CNTR, PCNTR, CHECK and DATA, which begins at `data`.
-fn plain_command(fields: &[u8], data: usize, out: &mut [u8]) -> Written {
-    let check = own_octets(first_octets(fields, data), 13);
-    skelmarix::build_command(
-        clear_of(fields),
-        cntr_of(own_octets(fields, 7)),
-        octet(fields, 12),
-        check,
-        own_octets(fields, data),
-        out,
-    )
+// SPI, KIC, KID, TAR, CNTR, PCNTR, CHECK and DATA, which begins at `data`; of a USSD string behind its PFI.
+fn plain_command(ussd: bool, fields: &[u8], data: usize, out: &mut [u8]) -> Written {
+    let rest = own_octets(fields, ussd as usize);
+    let clear = clear_of(rest);
+    let cntr = cntr_of(own_octets(rest, 7));
+    let pcntr = octet(rest, 12);
+    let before = own_octets(first_octets(fields, data), ussd as usize);
+    let check = own_octets(before, 13);
+    let secured = own_octets(fields, data);
+    if ussd {
+        return skelmarix::write_ussd(octet(fields, 0), clear, cntr, pcntr, check, secured, out);
+    }
+    skelmarix::build_command(clear, cntr, pcntr, check, secured, out)
 }
 
 // TAR, CNTR, PCNTR, STATUS, CHECK and DATA, which begins at `data`.
@@ -52,9 +54,15 @@ fn narrow(n: u64) -> u16 {
     if n < 65535 { n as u16 } else { 65535 }
 }
 
-fn ciphered_command(fields: &[u8], header: u64, out: &mut [u8]) -> Written {
-    let opaque = own_octets(fields, 7);
-    skelmarix::build_ciphered_command(clear_of(fields), narrow(header), opaque, out)
+// SPI, KIC, KID, TAR and the opaque octets; of a USSD string behind its PFI.
+fn ciphered_command(ussd: bool, fields: &[u8], header: u64, out: &mut [u8]) -> Written {
+    let rest = own_octets(fields, ussd as usize);
+    let clear = clear_of(rest);
+    let opaque = own_octets(rest, 7);
+    if ussd {
+        return skelmarix::write_ciphered_ussd(octet(fields, 0), clear, narrow(header), opaque, out);
+    }
+    skelmarix::build_ciphered_command(clear, narrow(header), opaque, out)
 }
 
 fn ciphered_response(fields: &[u8], header: u64, out: &mut [u8]) -> Written {
@@ -64,11 +72,11 @@ fn ciphered_response(fields: &[u8], header: u64, out: &mut [u8]) -> Written {
 
 // Builds what a row says, with its number: where the data of a plain body begins, or the header length of a ciphered one.
 fn built(row: usize, n: u64, fields: &[u8], out: &mut [u8]) -> Written {
-    if row == table::BUILD_COMMAND {
-        return plain_command(fields, n as usize, out);
+    if (row == table::BUILD_COMMAND) | (row == table::WRITE_USSD) {
+        return plain_command(row == table::WRITE_USSD, fields, n as usize, out);
     }
-    if row == table::BUILD_CIPHERED_COMMAND {
-        return ciphered_command(fields, n, out);
+    if (row == table::BUILD_CIPHERED_COMMAND) | (row == table::WRITE_CIPHERED_USSD) {
+        return ciphered_command(row == table::WRITE_CIPHERED_USSD, fields, n, out);
     }
     if row == table::BUILD_RESPONSE {
         return plain_response(fields, n as usize, out);
@@ -76,15 +84,21 @@ fn built(row: usize, n: u64, fields: &[u8], out: &mut [u8]) -> Written {
     ciphered_response(fields, n, out)
 }
 
-// Which word of a row has that number: behind a plain body's CHECK the data begins.
+// Which word of a row has that number: behind a plain body's CHECK the data begins. A USSD string has a word more, its PFI.
 fn place(row: usize) -> usize
-    ensures { λ r. ⌜ r ≤ 6 ⌝ }
+    ensures { λ r. ⌜ r ≤ 7 ⌝ }
 {
     if row == table::BUILD_COMMAND {
         return 6;
     }
     if row == table::BUILD_CIPHERED_RESPONSE {
-        1
+        return 1;
+    }
+    if row == table::WRITE_USSD {
+        return 7;
+    }
+    if row == table::WRITE_CIPHERED_USSD {
+        5
     } else {
         4
     }
@@ -94,5 +108,10 @@ fn place(row: usize) -> usize
 pub(crate) fn build(l: words::line::Line, fields: &[u8], out: &mut [u8]) -> Row {
     let values = l.values;
     let n = values[place(l.row)];
-    rows::written(rows::PACKET, built(l.row, n, fields, out))
+    let name = if table::SUM_USSD < l.row {
+        rows::STRING
+    } else {
+        rows::PACKET
+    };
+    rows::written(name, built(l.row, n, fields, out))
 }

@@ -1,9 +1,10 @@
-// Lines that leave alone what is kept: calls on packets, arrivals, parts and reports. Each is known by its row of the table, and its octets are one
+// Lines that leave alone what is kept: calls on packets, USSD strings, arrivals, parts and reports. Each is known by its row of the table, and its octets are one
 // word's behind the other's (`values::fields`).
 mod build;
 mod packets;
 mod parts;
 
+pub use packets::is_packet;
 pub use packets::say_packet;
 use types::CHECKSUM_OCTETS;
 use types::PACKET_OCTETS;
@@ -34,10 +35,18 @@ fn wanted(n: usize, right: usize) -> usize
     if n == RIGHT { right } else { n }
 }
 
+// Whether a line that writes to the buffer asks for checksum octets.
+fn is_sum(row: usize) -> bool {
+    (row < table::BUILD_COMMAND) | (row == table::SUM_USSD)
+}
+
 // The right number for a line that writes to the buffer. A checksum covers a packet and the three octets before a response.
 fn right(row: usize) -> usize {
-    if row < table::BUILD_COMMAND {
+    if is_sum(row) {
         return CHECKSUM_OCTETS;
+    }
+    if table::SUM_USSD < row {
+        return types::USSD_OCTETS;
     }
     if row < table::BUILD_CIPHERED_RESPONSE + 1 {
         return PACKET_OCTETS;
@@ -62,10 +71,10 @@ pub fn fill(buffer: &mut [u8], x: u8)
 
 // Makes what a line asks for at the start of what is lent of the buffer.
 fn made(l: Line, fields: &[u8], out: &mut [u8]) -> Row {
-    if l.row < table::BUILD_COMMAND {
+    if is_sum(l.row) {
         return packets::sum(l.row, fields, out);
     }
-    if l.row < table::BUILD_CIPHERED_RESPONSE + 1 {
+    if (l.row < table::BUILD_CIPHERED_RESPONSE + 1) | (table::SUM_USSD < l.row) {
         return build::build(l, fields, out);
     }
     parts::write(l, fields, out)
@@ -79,7 +88,9 @@ fn make(l: Line, fields: &[u8], size: usize, buffer: &mut [u8]) -> Row {
 
 // Whether a line writes to the buffer.
 fn writes(row: usize) -> bool {
-    ((table::SUM_COMMAND <= row) & (row <= table::WRITE_PAGE)) | (row == table::REPORT)
+    ((table::SUM_COMMAND <= row) & (row <= table::WRITE_PAGE))
+        | (row == table::REPORT)
+        | (table::SUM_USSD <= row)
 }
 
 // What a line answers, the packets' apart; `row` is what was made of it already. A line that fills fills the buffer too.

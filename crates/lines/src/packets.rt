@@ -1,5 +1,7 @@
-// Lines on packets: parsing, showing, checksum octets.
+// Lines on packets and on USSD strings: parsing, showing, checksum octets.
 use answers::print;
+use skelmarix::own_octets;
+use values::fields::octet;
 use values::rows;
 use values::rows::Row;
 use words::table;
@@ -36,10 +38,39 @@ fn say_response(row: usize, packet: &[u8], text: &mut [u8], at: usize) -> usize 
     print(r, check, data, opaque, text, at)
 }
 
-// Prints what a packet parses to, or its parts.
+// What a USSD string reads to, or its parts.
+fn string(read: bool, pfi: u8, dcs: u8, string: &[u8]) -> Row {
+    if read {
+        return rows::command(skelmarix::read_ussd(pfi, dcs, string));
+    }
+    rows::shown()
+}
+
+// PFI and DCS are the first two octets.
+fn say_string(read: bool, fields: &[u8], text: &mut [u8], at: usize) -> usize {
+    let pfi = octet(fields, 0);
+    let dcs = octet(fields, 1);
+    let whole = own_octets(fields, 2);
+    let r = string(read, pfi, dcs, whole);
+    let check = skelmarix::ussd_check(pfi, dcs, whole);
+    let data = skelmarix::ussd_data(pfi, dcs, whole);
+    let opaque = skelmarix::ussd_opaque(pfi, dcs, whole);
+    print(r, check, data, opaque, text, at)
+}
+
+// Whether a line asks what a packet or a USSD string parses to, or for its parts.
+pub fn is_packet(row: usize) -> bool {
+    ((table::COMMAND <= row) & (row <= table::SHOW_CIPHERED))
+        | ((table::READ_USSD <= row) & (row <= table::SHOW_USSD))
+}
+
+// Prints what a packet or a USSD string parses to, or its parts.
 pub fn say_packet(row: usize, packet: &[u8], text: &mut [u8], at: usize) -> usize {
     if (row == table::COMMAND) | (row == table::SHOW_COMMAND) {
         return say_command(row == table::COMMAND, packet, text, at);
+    }
+    if table::SHOW_CIPHERED < row {
+        return say_string(row == table::READ_USSD, packet, text, at);
     }
     say_response(row, packet, text, at)
 }
@@ -47,6 +78,9 @@ pub fn say_packet(row: usize, packet: &[u8], text: &mut [u8], at: usize) -> usiz
 fn summed(row: usize, packet: &[u8], out: &mut [u8]) -> types::Written {
     if row == table::SUM_COMMAND {
         return skelmarix::command_checksum(packet, out);
+    }
+    if row == table::SUM_USSD {
+        return skelmarix::ussd_checksum(packet, out);
     }
     skelmarix::response_checksum(packet, row == table::SUM_CIPHERED, out)
 }

@@ -52,6 +52,8 @@ pub const DISPLACED: u64 = 4728234740900;
 
 pub const OCTETS: u64 = 507123347;
 
+pub const STRING: u64 = 659105223;
+
 pub const RECORD: u64 = 609336900;
 
 pub const COMMAND: u64 = 3738600900;

@@ -136,11 +136,18 @@ rows =
     row 0 "answered" (octets 4 then any) ∷
     row 0 "outstanding" (orNone octet then orNone (octets 4) then octets 3 then octets 5) ∷
     row 0 "captured" (octets 4 then any) ∷
+    row 0 "ussd" name ∷
+    row 61 "read" (octets 1 then octets 1 then any) ∷
+    row 23 "ussd" (octets 1 then octets 1 then any) ∷
+    row 61 "checksum" any ∷
+    row 61 "write" (octets 1 then name) ∷
+    row 65 "plain" (octets 2 then octets 1 then octets 1 then octets 3 then octets 5 then octets 1 then any then any) ∷
+    row 65 "ciphered" (octets 2 then octets 1 then octets 1 then octets 3 then number then any) ∷
     []
 
 -- how many there are
 abbrev pub rowCount : ℕ
-rowCount = 61
+rowCount = 68
 
 -- the key of a name behind an earlier row
 abbrev pub nameAfter : ℕ → ℕ → ℕ

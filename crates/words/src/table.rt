@@ -6,7 +6,7 @@ ghost use lib.ListN.{getD};
 ghost use Rattle.words.specs.Table.{rowCount, keys, rowOf, allSorts, mostOf};
 
 // How many rows there are; row 0 is where a line begins, and stands for none.
-const ROWS: usize = 61;
+const ROWS: usize = 68;
 
 // The rows that lines are told apart by.
 pub const MESSAGE: usize = 1;
@@ -81,6 +81,16 @@ pub const OUTSTANDING: usize = 59;
 
 pub const CAPTURED: usize = 60;
 
+pub const READ_USSD: usize = 62;
+
+pub const SHOW_USSD: usize = 63;
+
+pub const SUM_USSD: usize = 64;
+
+pub const WRITE_USSD: usize = 66;
+
+pub const WRITE_CIPHERED_USSD: usize = 67;
+
 // The key of each row: its earlier row and its name.
 const KEYS: [u64; ROWS] = [
     0,
@@ -144,6 +154,13 @@ const KEYS: [u64; ROWS] = [
     50053957796,
     17650035007301063,
     104711506084,
+    708196,
+    2197756618157397028,
+    828662331436879460,
+    2197756729997250221,
+    2197756618181518981,
+    2341871806249829678,
+    2341871919520991396,
 ];
 
 // The sorts of the words that follow, six bits each, the first lowest.
@@ -209,6 +226,13 @@ const SORTS: [u64; ROWS] = [
     0x824,
     0x963D15,
     0x824,
+    0x1,
+    0x20861,
+    0x20861,
+    0x20,
+    0x61,
+    0x8208658E1862,
+    0x8028E1862,
 ];
 
 // The greatest number of each sort.
