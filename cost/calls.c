@@ -5,10 +5,11 @@
 #include <string.h>
 #include "calls.h"
 
-enum { SLOT = 2144, CELLS = 5 * SLOT, MOST = 2142, PAGED = 1230, SMALL = 52, WHOLE = 137, UD = 140, PAGE = 88, SUM = 2145, FILE_OCTETS = 65536, CAPTURED = 144, PAINTED = 16384 };
+enum { SLOT = 2144, CELLS = 5 * SLOT, MOST = 2142, PAGED = 1230, SMALL = 52, WHOLE = 137, UD = 140, PAGE = 88, SUM = 2145, FILE_OCTETS = 65536, CAPTURED = 144, USSD = 160, DCS = 0x96, PAINTED = 16384 };
 
 static uint8_t cells[CELLS], out[MOST], ud[UD], page[PAGE], sum[SUM];
 static uint8_t packet[MOST], paged[PAGED], small[SMALL], response[MOST], whole[WHOLE];
+static uint8_t string[USSD], secret[USSD], brief[USSD];
 static uint8_t file[FILE_OCTETS], salvaged[FILE_OCTETS];
 static Record record;
 static Taken taken;
@@ -107,6 +108,17 @@ static void own_octets(void) { length = cost_own_octets(ud, UD, 6); }
 static void number_of(void) { length = cost_number_of(packet[0], packet[1]); }
 static void pair_of(void) { length = cost_pair_of(MOST); }
 static void put(void) { length = cost_put_octets(packet, UD, out, MOST, 1000); }
+static void read_brief(void) { length = cost_read_ussd(1, DCS, brief, SMALL + 1); }
+static void read_ussd(void) { length = cost_read_ussd(1, DCS, string, USSD); }
+static void read_cut(void) { length = cost_read_ussd(1, DCS, string, 100); }
+static void ussd_check(void) { length = cost_ussd_check(1, DCS, string, USSD); }
+static void ussd_data(void) { length = cost_ussd_data(1, DCS, string, USSD); }
+static void ussd_opaque(void) { length = cost_ussd_opaque(1, DCS, secret, USSD); }
+static void write_brief(void) { length = cost_write_ussd(packet, 8, packet, 28, brief, USSD); }
+static void write_ussd(void) { length = cost_write_ussd(packet, 8, packet, 134, string, USSD); }
+static void write_secret(void) { length = cost_write_ciphered_ussd(21, packet, 148, secret, USSD); }
+static void sum_brief(void) { length = cost_ussd_checksum(brief + 1, SMALL, sum, SUM); }
+static void sum_ussd(void) { length = cost_ussd_checksum(string + 1, USSD - 1, sum, SUM); }
 static void same(void) { length = cost_same_octets(packet, UD, small, SMALL); }
 static void same_not(void) { length = cost_same_octets(packet + 3, 134, response + 4, 134); }
 static void same_long(void) { length = cost_same_octets(packet + 3, 134, response + 3, 134); }
@@ -322,6 +334,20 @@ static void commands(void) {
     settles("response_came, refused 23, 8 entries", response_came, 0, 23, 8);
 }
 
+static void strings(void) {
+    gives("write_ussd, 53 octets", write_brief, SMALL + 1);
+    gives("write_ussd, 160 octets", write_ussd, USSD);
+    gives("write_ciphered_ussd, 160 octets", write_secret, USSD);
+    gives("read_ussd, 53 octets", read_brief, 0);
+    gives("read_ussd, 160 octets", read_ussd, 0);
+    gives("read_ussd, refused 9", read_cut, 9);
+    gives("ussd_check, 160 octets", ussd_check, 8);
+    gives("ussd_data, 160 octets", ussd_data, 134);
+    gives("ussd_opaque, 160 octets", ussd_opaque, 148);
+    gives("ussd_checksum, 52 octets", sum_brief, 44);
+    gives("ussd_checksum, 159 octets", sum_ussd, 151);
+}
+
 static void captures(void) {
     memset(file, 0x33, FILE_OCTETS);
     gives("salvage, 65,536 octets, garbage", salvage, 0);
@@ -341,6 +367,6 @@ int main(int argc, char **argv) {
     fill();
     run("an empty call", nothing);
     run("a call that hands the record back as it is", hand_back);
-    numbers(), messages(), pages(), records(), packets(), octets(), beats(), judgements(), commands(), captures();
+    numbers(), messages(), pages(), records(), packets(), octets(), beats(), judgements(), commands(), strings(), captures();
     return 0;
 }

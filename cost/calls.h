@@ -59,3 +59,10 @@ Settled cost_response_came(Outstanding, uint32_t sender, const uint8_t *response
 size_t cost_salvage(const uint8_t *file, size_t, uint8_t *output, size_t);
 Run cost_next_skipped(const uint8_t *file, size_t, size_t from);
 size_t cost_read_captured(const uint8_t *octets, size_t);
+uint8_t cost_read_ussd(uint8_t pfi, uint8_t dcs, const uint8_t *string, size_t);
+size_t cost_ussd_check(uint8_t pfi, uint8_t dcs, const uint8_t *string, size_t);
+size_t cost_ussd_data(uint8_t pfi, uint8_t dcs, const uint8_t *string, size_t);
+size_t cost_ussd_opaque(uint8_t pfi, uint8_t dcs, const uint8_t *string, size_t);
+size_t cost_write_ussd(const uint8_t *check, size_t, const uint8_t *data, size_t, uint8_t *out, size_t);
+size_t cost_write_ciphered_ussd(uint16_t header, const uint8_t *opaque, size_t, uint8_t *out, size_t);
+size_t cost_ussd_checksum(const uint8_t *um, size_t, uint8_t *out, size_t);
