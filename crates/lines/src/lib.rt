@@ -1,5 +1,5 @@
-// Lines that leave alone what is kept: calls on packets, USSD strings, arrivals, parts and reports. Each is known by its row of the table, and its octets are one
-// word's behind the other's (`values::fields`).
+// Lines that leave alone what is kept: calls on packets, USSD strings, arrivals, parts and reports. Each is known by its row of the table, and its
+// octets are one word's behind the other's (`values::fields`).
 mod build;
 mod packets;
 mod parts;
