@@ -62,8 +62,8 @@ pub use ussd::read::ussd_check;
 pub use ussd::read::ussd_data;
 pub use ussd::read::ussd_opaque;
 pub use ussd::sum::ussd_checksum;
-pub use ussd::write::write_ciphered_ussd;
-pub use ussd::write::write_ussd;
+pub use ussd_write::write_ciphered_ussd;
+pub use ussd_write::write_ussd;
 
 // Counters: the counter of a command, judged against the one that is stored.
 pub use counters::judge_counter;

@@ -3,9 +3,9 @@ use denote.Ref.{now}
 use lib.ListN.{getD}
 use Rattle.types.specs.declared.Kind.the-variants.{Command}
 use Rattle.build.specs.Within.{againstOctet}
-use Rattle.ussd.proofs.Steps.{allowed-size, steps}
-use Rattle.ussd.proofs.write.write_fields.Statement.{statement}
-use Rattle.ussd.proofs.write.write_fields.Tie as tie
+use Rattle.ussd_write.proofs.Steps.{allowed-size, steps}
+use Rattle.ussd_write.proofs.write_fields.Statement.{statement}
+use Rattle.ussd_write.proofs.write_fields.Tie as tie
 
 wide-requires : tie.Need-wide-requires
 wide-requires c κs = search steps

@@ -1,8 +1,8 @@
 -- `put_lead` meets its contract. Each length is put where what is before it ended.
 use denote.Ref.{now}
-use Rattle.ussd.proofs.Steps.{whole-lead, steps}
-use Rattle.ussd.proofs.write.put_lead.Statement.{statement}
-use Rattle.ussd.proofs.write.put_lead.Tie as tie
+use Rattle.ussd_write.proofs.Steps.{whole-lead, steps}
+use Rattle.ussd_write.proofs.put_lead.Statement.{statement}
+use Rattle.ussd_write.proofs.put_lead.Tie as tie
 
 slice-aggregate-put : tie.Need-slice-aggregate-put
 slice-aggregate-put c = search steps

@@ -1,5 +1,5 @@
-// Writing a command as a USSD string into a lent buffer: PFI, identifier and lengths, and the fields behind them.
-use crate::um;
+// Writing a command as a USSD string into a lent buffer (02, [7]): PFI, identifier and lengths, and the fields behind them. The rules are those of
+// `ussd`.
 use build::Ruling;
 use packet::layout;
 use types::Clear;
@@ -8,6 +8,7 @@ use types::Kind;
 use types::UM_OCTETS;
 use types::USSD_OCTETS;
 use types::Written;
+use ussd::um;
 ghost use mathlib.Core.Path.{_≡_};
 ghost use mathlib.Core.List.{_∷_, _++_};
 ghost use Prim.Native.Nat.{_+_, _≤_};
@@ -17,8 +18,8 @@ ghost use Rattle.types.specs.Refusals.{gives, lent, writes, toldWritten};
 ghost use Rattle.packet.specs.Packets.{plain, ciphered};
 ghost use Rattle.packet.specs.Told.{clearOctets, commandFixed};
 ghost use Rattle.build.specs.Within.{againstOctet};
 ghost use Rattle.ussd.specs.Ussd.{lengthOctets, umFrom, writtenUssd};
-ghost use Rattle.ussd.specs.Within.{leadOctets, overUm, triedUssd};
+ghost use Rattle.ussd_write.specs.Within.{leadOctets, overUm, triedUssd};
 
 // ---- lengths
 // How many octets a length is coded in.

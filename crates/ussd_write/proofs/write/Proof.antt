@@ -1,8 +1,8 @@
 -- `write` meets its contract. CPL counts the octets of CHL and what is behind it, and the fields are put behind both.
 use denote.Ref.{now}
-use Rattle.ussd.proofs.Steps.{string-written, steps}
-use Rattle.ussd.proofs.write.write.Statement.{statement}
-use Rattle.ussd.proofs.write.write.Tie as tie
+use Rattle.ussd_write.proofs.Steps.{string-written, steps}
+use Rattle.ussd_write.proofs.write.Statement.{statement}
+use Rattle.ussd_write.proofs.write.Tie as tie
 
 add-rest : tie.Need-add-rest
 add-rest c = search steps
