@@ -1,10 +1,10 @@
 -- What the proofs over the order of recency cite: one law for each return and turn of a loop, over plain variables.
 use Prim.Native.Nat.{ℕ, suc, _+_, _-_, _≤_, _<_}
-use mathlib.Core.Path.{_≡_, refl, _∙_}
+use mathlib.Core.Path.{_≡_, refl}
 use mathlib.Core.Bool.{Bool, true, false, not, cond, _&&_, _||_}
 use native.Mathlib.Omega.{arith}
 use native.Mathlib.Numerals.{add-one, sub-one}
-use lib.ListN.{length, set, length-set}
+use lib.ListN.{set}
 use lib.Dec.{eqb, ltb}
 use mir.Syntax.{w8}
 use mir.Val.{Fits}
@@ -13,9 +13,9 @@ use borrow.Author.Tests.{ltb-true, lt-ltb, le-ltb}
 use Rattle.octets.specs.Tests.{both}
 use Rattle.types.specs.declared.Slot.{Slot}
 use Rattle.types.specs.declared.Record.{Record}
-use Rattle.slots.specs.Slots.{mostSlots, slotAt, atRank, aged, closed, withSlots, slotsIn}
+use Rattle.slots.specs.Slots.{slotAt, aged, closed, withSlots, slotsIn}
 use Rattle.slots.specs.Found.{length-of-map}
-use Rattle.slots.specs.Order.{rankAfter, firstWith, reranked, first-next, first-more, Changed, replaced}
+use Rattle.slots.specs.Order.{rankAfter, reranked, Changed, change-starts, change-goes-on, replaced}
 
 -- ---- ranks
 module _ (front : Bool) (r q : ℕ) where
@@ -56,27 +56,7 @@ module _ (front : Bool) (r q : ℕ) where
       go true h k = here (ltb q 255) (not (eqb q 0) && (eqb r 0 || ltb q r)) h
       go false h k = rw k
 
--- ---- a loop that changes the ranks
-module _ (g : ℕ → ℕ) (n : ℕ) (r : Record) where
-  pub change-starts : length (r .slots) ≡ mostSlots → n ≤ mostSlots → Changed (reranked g) n r r 0
-  unfolding firstWith
-  change-starts e l = record { after = e; most = l; within = omega arith; kind = refl; number = refl; slots = refl }
-
-  module _ (s : Record) (j : ℕ) (done : Changed (reranked g) n r s j) where
-    next : slotAt (s .slots) j ≡ slotAt (r .slots) j
-    next = rw (done .slots) (first-next (reranked g) j (r .slots))
-
-    pub change-goes-on : (q : ℕ) → j < n → q ≡ g (slotAt (s .slots) j .rank)
-        → Changed (reranked g) n r (withSlots s (set (s .slots) j (atRank q (slotAt (s .slots) j)))) (j + 1)
-    change-goes-on q l e = record {
-      after = length-set (s .slots) j (atRank q (slotAt (s .slots) j)) ∙ done .after;
-      most = done .most;
-      within = omega arith;
-      kind = done .kind;
-      number = done .number;
-      slots = rw (e, next, done .slots, add-one) (first-more (reranked g) j (r .slots));
-    }
-
+-- ---- the end of the loop that changes the ranks
 pub change-ends : (n i : ℕ) (front : Bool) (r s : Record) (j : ℕ) (x : Slot) → Changed (reranked (rankAfter front (slotAt (r .slots) i .rank))) n r s j
     → n ≡ slotsIn r → n ≤ j → i < n → withSlots s (set (s .slots) i x) ≡ replaced front r i x
 change-ends n i front r s j x done is l inside =

@@ -4,4 +4,5 @@ pub mod Slots
 pub mod RankLaws
 pub mod FrontLaws
 pub mod Found
+pub mod SearchLaws
 pub mod Order

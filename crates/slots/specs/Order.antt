@@ -1,11 +1,12 @@
 -- What the call on the order of recency comes to on every input: also where i is no slot of the record, and at a rank that no slot of a
 -- well-formed record has. Where neither is so it comes to `toFront` and to `freed`, by the laws at the end.
-use Prim.Native.Nat.{ℕ, zero, suc, _≤_, _<_}
+use Prim.Native.Nat.{ℕ, zero, suc, _+_, _≤_, _<_}
 use mathlib.Core.Path.{_≡_, refl, sym, ap, _∙_}
 use mathlib.Core.Bool.{Bool, true, false, cond}
 use mathlib.Core.List.{List, [], _∷_, map}
 use native.Mathlib.Omega.{arith}
-use lib.ListN.{length, set}
+use native.Mathlib.Numerals.{add-one}
+use lib.ListN.{length, set, length-set}
 use lib.Dec.{ltb}
 use borrow.Author.Tests.{lt-ltb, le-ltb}
 use Rattle.types.specs.declared.Slot.{Slot}
@@ -60,6 +61,27 @@ reranked g x = atRank (g (x .rank)) x
 
 abbrev pub firstRanked : (ℕ → ℕ) → ℕ → List Slot → List Slot
 firstRanked g = firstWith (reranked g)
+
+-- ---- a loop that changes the ranks
+module _ (g : ℕ → ℕ) (n : ℕ) (r : Record) where
+  pub change-starts : length (r .slots) ≡ mostSlots → n ≤ mostSlots → Changed (reranked g) n r r 0
+  unfolding firstWith
+  change-starts e l = record { after = e; most = l; within = omega arith; kind = refl; number = refl; slots = refl }
+
+  module _ (s : Record) (j : ℕ) (done : Changed (reranked g) n r s j) where
+    next : slotAt (s .slots) j ≡ slotAt (r .slots) j
+    next = rw (done .slots) (first-next (reranked g) j (r .slots))
+
+    pub change-goes-on : (q : ℕ) → j < n → q ≡ g (slotAt (s .slots) j .rank)
+        → Changed (reranked g) n r (withSlots s (set (s .slots) j (atRank q (slotAt (s .slots) j)))) (j + 1)
+    change-goes-on q l e = record {
+      after = length-set (s .slots) j (atRank q (slotAt (s .slots) j)) ∙ done .after;
+      most = done .most;
+      within = omega arith;
+      kind = done .kind;
+      number = done .number;
+      slots = rw (e, next, done .slots, add-one) (first-more (reranked g) j (r .slots));
+    }
 
 -- Slot i becomes x, and each other slot of the record is at its rank once slot i has come to the front, or was freed. Where i is none of its
 -- slots, the record stays as it is.

@@ -17,7 +17,7 @@ ghost use Rattle.slots.specs.Slots.{mostSlots, defaultSlots, opened, fre
 ghost use Rattle.slots.specs.Found.{toldFound, Inside, newSeat, seatOf, withPartIn};
 
 // Which slot a search found.
-pub(crate) enum Found {
+pub enum Found {
     At(usize),
     Nothing,
 }

@@ -8,7 +8,7 @@ ghost use Rattle.slots.specs.Slots.{atFront};
 ghost use Rattle.slots.specs.Order.{rankAfter, replaced};
 
 // Rank q after a slot of rank r has come to the front, or was freed. No rank is counted past 255.
-fn rank_after(front: bool, r: u8, q: u8) -> u8
+pub fn rank_after(front: bool, r: u8, q: u8) -> u8
     ensures { λ p. ⌜ p ≡ rankAfter front r q ⌝ }
 {
     if front & (q < 255) & ((q != 0) & ((r == 0) | (q < r))) {

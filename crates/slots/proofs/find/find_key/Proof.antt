@@ -1,7 +1,7 @@
 -- `find_key` meets its contract: no slot before i bears the key, so the first that does is the one found, and behind the last there is none. Assumes nothing.
 use Prim.Native.Nat.{_-_}
 use Rattle.slots.specs.Slots.{bears}
-use Rattle.slots.proofs.FindLaws.{Passed}
+use Rattle.slots.specs.SearchLaws.{Passed}
 use Rattle.slots.proofs.FindSteps.{findSteps}
 use Rattle.slots.proofs.find.find_key.Statement.{statement}
 use Rattle.slots.proofs.find.find_key.Tie as tie

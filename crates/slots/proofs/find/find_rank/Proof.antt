@@ -1,7 +1,7 @@
 -- `find_rank` meets its contract: no slot before i has the rank, so the first that has it is the one found, and behind the last there is none. Assumes nothing.
 use Prim.Native.Nat.{_-_}
 use Rattle.slots.specs.Slots.{isLeastRecent}
-use Rattle.slots.proofs.FindLaws.{Passed}
+use Rattle.slots.specs.SearchLaws.{Passed}
 use Rattle.slots.proofs.FindSteps.{findSteps}
 use Rattle.slots.proofs.find.find_rank.Statement.{statement}
 use Rattle.slots.proofs.find.find_rank.Tie as tie
