@@ -1,0 +1,9 @@
+-- `bears` meets its contract: each need follows by a law of `ReadSteps`. Assumes nothing.
+use Rattle.layout.proofs.ReadSteps.{findSteps}
+use Rattle.layout.proofs.find.bears.Statement.{statement}
+use Rattle.layout.proofs.find.bears.Tie as tie
+
+pub bears-spec : {M : Type 1} → statement M
+bears-spec =
+    tie.close
+    (tie.spec (λ c κs. search findSteps) (λ c κs. search findSteps) (λ c κs. search findSteps) (λ c. search findSteps))

@@ -1,0 +1,10 @@
+-- `new_seat` meets its contract: each need follows by a law of `ReadSteps`. Assumes nothing.
+use Rattle.layout.proofs.ReadSteps.{findSteps}
+use Rattle.layout.proofs.find.new_seat.Statement.{statement}
+use Rattle.layout.proofs.find.new_seat.Tie as tie
+
+pub new-seat-spec : {M : Type 1} → statement M
+new-seat-spec =
+    tie.close
+    (tie.spec (λ c κs. search findSteps) (λ c. search findSteps) (λ c. search findSteps) (λ c κs. search findSteps)
+    (λ c. search findSteps) (λ c. search findSteps))

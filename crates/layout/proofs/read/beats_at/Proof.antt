@@ -1,0 +1,9 @@
+-- `beats_at` meets its contract: each need follows by a law of `ReadSteps`. Assumes nothing.
+use Rattle.layout.proofs.ReadSteps.{readSteps}
+use Rattle.layout.proofs.read.beats_at.Statement.{statement}
+use Rattle.layout.proofs.read.beats_at.Tie as tie
+
+pub beats-at-spec : {M : Type 1} → statement M
+beats-at-spec =
+    tie.close
+    (tie.spec (λ c κs. search readSteps) (λ c. search readSteps))

@@ -1,0 +1,10 @@
+-- `key_at` meets its contract: each need follows by a law of `ReadSteps`. Assumes nothing.
+use Rattle.layout.proofs.ReadSteps.{readSteps}
+use Rattle.layout.proofs.read.key_at.Statement.{statement}
+use Rattle.layout.proofs.read.key_at.Tie as tie
+
+pub key-at-spec : {M : Type 1} → statement M
+key-at-spec =
+    tie.close
+    (tie.spec (λ c κs. search readSteps) (λ c κs. search readSteps) (λ c κs. search readSteps) (λ c κs. search readSteps)
+    (λ c κs. search readSteps) (λ c κs. search readSteps) (λ c κs. search readSteps) (λ c. search readSteps))

@@ -1,0 +1,9 @@
+-- `kind_in` meets its contract: each need follows by a law of `ReadSteps`. Assumes nothing.
+use Rattle.layout.proofs.ReadSteps.{readSteps}
+use Rattle.layout.proofs.read.kind_in.Statement.{statement}
+use Rattle.layout.proofs.read.kind_in.Tie as tie
+
+pub kind-in-spec : {M : Type 1} → statement M
+kind-in-spec =
+    tie.close
+    (tie.spec (λ c. search readSteps) (λ c. search readSteps) (λ c. search readSteps))

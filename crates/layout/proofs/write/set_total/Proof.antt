@@ -1,0 +1,9 @@
+-- `set_total` meets its contract: each need follows by a law of `WriteSteps`. Assumes nothing.
+use Rattle.layout.proofs.WriteSteps.{writeSteps}
+use Rattle.layout.proofs.write.set_total.Statement.{statement}
+use Rattle.layout.proofs.write.set_total.Tie as tie
+
+pub set-total-spec : {M : Type 1} → statement M
+set-total-spec =
+    tie.close
+    (tie.spec (λ c κs. search writeSteps) (λ c. search writeSteps))

@@ -1,0 +1,37 @@
+-- What a change of a state promises: of its octets, and of the record that they hold.
+use Prim.Native.Nat.{ℕ}
+use mathlib.Core.Path.{_≡_}
+use mathlib.Core.Bool.{true}
+use mathlib.Core.List.{List}
+use lib.ListN.{length, set, take, drop}
+use Rattle.types.specs.declared.Key.{Key}
+use Rattle.types.specs.declared.Slot.{Slot}
+use Rattle.types.specs.declared.Record.{Record}
+use Rattle.slots.specs.Slots.{mostSlots, slotAt, withSlots}
+use Rattle.layout.specs.Blocks.{blocks}
+use Rattle.layout.specs.Layout.{headSize, recordIn, known}
+
+-- slot i of the record that the octets hold, and that record with y as slot i; where there is no slot i, the record as it is
+abbrev pub slotFrom : List ℕ → ℕ → Slot
+slotFrom s i = slotAt (recordIn s .slots) i
+
+abbrev pub withSlot : List ℕ → ℕ → Slot → Record
+withSlot s i y = withSlots (recordIn s) (set (recordIn s .slots) i y)
+
+-- t is s with x as the octets of slot i
+pub record Stored (s t : List ℕ) (i : ℕ) (x : List ℕ) : Type 0 where
+  pub size : length t ≡ length s
+  pub head : take headSize t ≡ take headSize s
+  pub own : blocks mostSlots (drop headSize t) ≡ set (blocks mostSlots (drop headSize s)) i x
+
+-- If s holds a record, t holds the record r. Of octets that hold none nothing is promised: no call gets past the test of them.
+pub record Became (s t : List ℕ) (r : Record) : Type 0 where
+  pub still : known s ≡ true → known t ≡ true
+  pub now : known s ≡ true → recordIn t ≡ r
+
+-- the slot with another key, and with another total
+abbrev pub withKey : Key → Slot → Slot
+withKey k x = record { rank = x .rank; beats = x .beats; key = k; total = x .total; lengths = x .lengths; held = x .held }
+
+abbrev pub withTotal : ℕ → Slot → Slot
+withTotal n x = record { rank = x .rank; beats = x .beats; key = x .key; total = n; lengths = x .lengths; held = x .held }

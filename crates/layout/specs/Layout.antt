@@ -1,0 +1,121 @@
+-- The record of unfinished series as the octets of a state, 233 of them whatever its number of slots.
+--
+--   octet   what
+--   0       the number of this format, 1
+--   1       the kind: 0 commands, 1 responses
+--   2       the number of slots
+--   3       slot 0, then slots 1 to 4, of 46 octets each:
+--
+--   octet of a slot   what
+--   0                 the rank
+--   1                 the count of beats
+--   2 to 5            of the key: the sender, big-endian as all numbers here
+--   6                 its width
+--   7, 8              its reference
+--   9, 10             its serial number
+--   11, 12            its message identifier
+--   13                the total
+--   14 to 29          the lengths of parts 1 to 16
+--   30 to 45          their marks: 1 the part is held, 0 it is not
+use Prim.Native.Nat.{ℕ, _+_, _*_, _/_, _%_}
+use mathlib.Core.Bool.{Bool, not, cond, _&&_}
+use mathlib.Core.List.{List, [], _∷_, _++_, map}
+use lib.ListN.{length, getD, take, drop}
+use lib.Dec.{eqb, leb}
+use Rattle.types.specs.declared.Kind.{Kind}
+use Rattle.types.specs.declared.Kind.the-variants.{Command, Response}
+use Rattle.types.specs.declared.Key.{Key}
+use Rattle.types.specs.declared.Slot.{Slot}
+use Rattle.types.specs.declared.Record.{Record}
+use Rattle.octets.specs.Octets.{numberOf}
+use Rattle.arrival.specs.Message.{mostParts}
+use Rattle.slots.specs.Below.{allBelow}
+use Rattle.slots.specs.Slots.{mostSlots}
+use Rattle.layout.specs.Blocks.{slotSize, blocks, laid}
+
+abbrev pub formatNumber : ℕ
+formatNumber = 1
+
+abbrev pub stateSize : ℕ
+stateSize = 233
+
+-- octets before the first slot; where octet p of slot i is
+abbrev pub headSize : ℕ
+headSize = 3
+
+abbrev pub place : ℕ → ℕ → ℕ
+place i p = headSize + slotSize * i + p
+
+-- the octets of slot i; past the last slot there are none
+abbrev pub own : ℕ → List ℕ → List ℕ
+own i s = getD (blocks mostSlots (drop headSize s)) i []
+
+-- ---- what octets say
+abbrev pub kindIn : ℕ → Kind
+kindIn k = cond (eqb k 0) Command Response
+
+abbrev pub isMark : ℕ → Bool
+isMark q = not (eqb q 0)
+
+abbrev pub wideNumber : ℕ → ℕ → ℕ
+wideNumber high low = high * 65536 + low
+
+abbrev pub keyIn : List ℕ → Key
+keyIn h = record {
+  sender = wideNumber (numberOf (getD h 2 0) (getD h 3 0)) (numberOf (getD h 4 0) (getD h 5 0));
+  width = getD h 6 0;
+  reference = numberOf (getD h 7 0) (getD h 8 0);
+  serial = record { 0 = numberOf (getD h 9 0) (getD h 10 0) };
+  identifier = record { 0 = numberOf (getD h 11 0) (getD h 12 0) };
+}
+
+-- a slot of what is before its lengths, of its lengths and of its marks
+unfoldable pub slotOf : List ℕ → List ℕ → List ℕ → Slot
+slotOf h ns ms = record { rank = getD h 0 0; beats = getD h 1 0; key = keyIn h; total = getD h 13 0; lengths = ns; held = map isMark ms }
+
+unfoldable pub slotIn : List ℕ → Slot
+slotIn x = slotOf (take 14 x) (take 16 (drop 14 x)) (take 16 (drop 30 x))
+
+unfoldable pub recordIn : List ℕ → Record
+recordIn s = record { kind = kindIn (getD s 1 0); count = getD s 2 0; slots = map slotIn (blocks mostSlots (drop headSize s)) }
+
+-- ---- which octets are a record
+-- each mark is 0 or 1
+abbrev pub markFits : List ℕ → ℕ → Bool
+markFits x k = leb (getD x (30 + k) 0) 1
+
+unfoldable pub marksFit : List ℕ → Bool
+marksFit x = allBelow mostParts (markFits x)
+
+abbrev pub headFits : List ℕ → Bool
+headFits s = eqb (length s) stateSize && eqb (getD s 0 0) formatNumber && leb (getD s 1 0) 1
+
+-- As many as a state has, of this format, with a kind and with marks that are one or the other. Every number of slots is let through here, as in
+-- a record; that it is 1 to 5 is a matter of a well-formed record.
+unfoldable pub known : List ℕ → Bool
+known s = headFits s && allBelow mostSlots (λ i. marksFit (own i s))
+
+-- ---- the octets of a record
+abbrev pub kindOctet : Kind → ℕ
+kindOctet Command = 0
+kindOctet Response = 1
+
+abbrev pub markOctet : Bool → ℕ
+markOctet b = cond b 1 0
+
+-- two octets of a number, before others
+abbrev pub withNumber : ℕ → List ℕ → List ℕ
+withNumber n o = n / 256 ∷ n % 256 ∷ o
+
+abbrev pub keyOctets : Key → List ℕ → List ℕ
+keyOctets k o =
+    withNumber (k .sender / 65536) (withNumber (k .sender % 65536) (k .width ∷ withNumber (k .reference) (withNumber (k .serial .0) (withNumber (k .identifier .0) o))))
+
+abbrev pub headOctets : Slot → List ℕ
+headOctets x = x .rank ∷ x .beats ∷ keyOctets (x .key) (x .total ∷ [])
+
+unfoldable pub slotOctets : Slot → List ℕ
+slotOctets x = headOctets x ++ (x .lengths ++ map markOctet (x .held))
+
+unfoldable pub octetsOf : Record → List ℕ
+octetsOf r = formatNumber ∷ kindOctet (r .kind) ∷ r .count ∷ laid (map slotOctets (r .slots))

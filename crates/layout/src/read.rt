@@ -1,0 +1,141 @@
+// What a state says, read where it is. A slot past the last says what a free one says.
+use crate::STATE_OCTETS;
+use crate::octet_at;
+use types::Key;
+use types::Kind;
+use types::MessageIdentifier;
+use types::PARTS;
+use types::SLOTS;
+use types::SerialNumber;
+ghost use mathlib.Core.Path.{_≡_};
+ghost use mathlib.Core.Bool.{false};
+ghost use Prim.Native.Nat.{_+_, _≤_, _<_};
+ghost use lib.ListN.{getD, take, drop};
+ghost use Rattle.octets.specs.Octets.{numberOf};
+ghost use Rattle.slots.specs.Slots.{mostSlots, slotsIn};
+ghost use Rattle.layout.specs.Blocks.{slotSize};
+ghost use Rattle.layout.specs.Layout.{own, wideNumber, recordIn};
+ghost use Rattle.layout.specs.Changes.{slotFrom};
+
+// ---- the record
+pub fn kind_in(state: &[u8; STATE_OCTETS]) -> Kind
+    ensures { λ r. ⌜ r ≡ recordIn (now (state .entry)) .kind ⌝ }
+{
+    let k = state[1];
+    if k == 0 {
+        return Kind::Command;
+    }
+    Kind::Response
+}
+
+// The number of slots as the state says it.
+pub fn count_in(state: &[u8; STATE_OCTETS]) -> u8
+    ensures { λ r. ⌜ r ≡ recordIn (now (state .entry)) .count ⌝ }
+{
+    state[2]
+}
+
+// How many slots the record has.
+pub fn slots_in(state: &[u8; STATE_OCTETS]) -> usize
+    ensures { λ r. ⌜ (r ≡ slotsIn (recordIn (now (state .entry)))) × (r ≤ mostSlots) ⌝ }
+{
+    let n = octets::wide(count_in(state));
+    if SLOTS < n {
+        return SLOTS;
+    }
+    n
+}
+
+// ---- a slot
+pub fn rank_at(state: &[u8; STATE_OCTETS], i: usize) -> u8
+    ensures { λ r. ⌜ r ≡ slotFrom (now (state .entry)) i .rank ⌝ }
+{
+    octet_at(state, i, 0)
+}
+
+pub fn beats_at(state: &[u8; STATE_OCTETS], i: usize) -> u8
+    ensures { λ r. ⌜ r ≡ slotFrom (now (state .entry)) i .beats ⌝ }
+{
+    octet_at(state, i, 1)
+}
+
+pub fn total_at(state: &[u8; STATE_OCTETS], i: usize) -> u8
+    ensures { λ r. ⌜ r ≡ slotFrom (now (state .entry)) i .total ⌝ }
+{
+    octet_at(state, i, 13)
+}
+
+// Two octets of slot i as a number.
+fn pair_at(state: &[u8; STATE_OCTETS], i: usize, p: usize) -> u16
+    requires { ⌜ p + 1 < slotSize ⌝ }
+    ensures { λ r. ⌜ r ≡ numberOf (getD (own i (now (state .entry))) p 0) (getD (own i (now (state .entry))) (p + 1) 0) ⌝ }
+{
+    octets::number_of(octet_at(state, i, p), octet_at(state, i, p + 1))
+}
+
+fn full(x: u16) -> u32
+    ensures { λ r. ⌜ r ≡ x ⌝ }
+{
+    x as u32
+}
+
+fn wide_number(high: u16, low: u16) -> u32
+    ensures { λ r. ⌜ r ≡ wideNumber high low ⌝ }
+{
+    full(high) * 65536 + full(low)
+}
+
+pub fn key_at(state: &[u8; STATE_OCTETS], i: usize) -> Key
+    ensures { λ r. ⌜ r ≡ slotFrom (now (state .entry)) i .key ⌝ }
+{
+    let high = pair_at(state, i, 2);
+    let low = pair_at(state, i, 4);
+    let sender = wide_number(high, low);
+    let width = octet_at(state, i, 6);
+    let reference = pair_at(state, i, 7);
+    let serial = pair_at(state, i, 9);
+    let identifier = pair_at(state, i, 11);
+    Key {
+        sender: sender,
+        width: width,
+        reference: reference,
+        serial: SerialNumber(serial),
+        identifier: MessageIdentifier(identifier),
+    }
+}
+
+// The length of the part at place k of slot i, from 0, and whether it is held.
+pub fn length_at(state: &[u8; STATE_OCTETS], i: usize, k: usize) -> u8
+    ensures { λ r. ⌜ r ≡ getD (slotFrom (now (state .entry)) i .lengths) k 0 ⌝ }
+{
+    if k < PARTS {
+        return octet_at(state, i, 14 + k);
+    }
+    0
+}
+
+pub fn mark_at(state: &[u8; STATE_OCTETS], i: usize, k: usize) -> bool
+    ensures { λ r. ⌜ r ≡ getD (slotFrom (now (state .entry)) i .held) k false ⌝ }
+{
+    if k < PARTS {
+        return octet_at(state, i, 30 + k) != 0;
+    }
+    false
+}
+
+// Octets of the state, where they are.
+fn part<'a>(s: &'a [u8], from: usize, n: usize) -> &'a [u8]
+    ensures { λ r. ⌜ now r ≡ take n (drop from (now (s .entry))) ⌝ }
+{
+    octets::up_to(arrival::own_octets(s, from), n)
+}
+
+// The lengths of all parts of slot i, where they are.
+pub fn lengths_at<'a>(state: &'a [u8; STATE_OCTETS], i: usize) -> &'a [u8]
+    ensures { λ r. ⌜ now r ≡ slotFrom (now (state .entry)) i .lengths ⌝ }
+{
+    if i < SLOTS {
+        return part(state, 3 + 46 * i + 14, 16);
+    }
+    part(state, 0, 0)
+}
