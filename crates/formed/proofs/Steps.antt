@@ -1,28 +1,18 @@
--- What the proofs of well-formedness cite: one law for each return, call and turn of a loop, over plain variables.
-use Prim.Native.Nat.{ℕ, _+_, _-_, _*_, _≤_, _<_}
-use mathlib.Core.Path.{_≡_, refl, sym, ap, _∙_}
-use mathlib.Core.Bool.{Bool, true, false, not, cond, _&&_, _||_, and-true}
-use mathlib.Core.List.{List}
-use lib.ListN.{length}
-use lib.Dec.{eqb, ltb, leb}
+-- What the proofs of well-formedness cite: the laws of the tests of a record, and those of a key and of what its parts can be.
+use Prim.Native.Nat.{ℕ}
+use mathlib.Core.Path.{_≡_}
+use mathlib.Core.Bool.{Bool, not, _&&_}
+use lib.Dec.{eqb, leb}
 use borrow.Author.Needs.{needs}
-use native.Mathlib.Omega.{arith}
-use borrow.Author.Tests.{eq-eqb, ne-eqb, eqb-true, ltb-true, ltb-false, leb-true, le-leb, lt-leb}
-use Rattle.octets.specs.Tests.{both, by-test}
+use borrow.Author.Tests.{eq-eqb, ne-eqb}
 use Rattle.types.specs.declared.Kind.{Kind}
 use Rattle.types.specs.declared.Key.{Key}
 use Rattle.arrival.specs.Message.{mostParts}
 use Rattle.arrival.specs.Page.{identifierInRange, noPages, pageContent}
-use Rattle.arrival.specs.Keys.{ofPages, referenceFits, messageKeyFormed, pageKeyFormed, keyFormed, totalFits, room, lengthFits}
-use Rattle.types.specs.declared.Slot.{Slot}
-use Rattle.slots.specs.Below.{allBelow}
-use Rattle.slots.specs.BelowLaws.{all-same, all-both, fault-from, fault-more, fault-through, all-but-first, all-from, all-more, all-through, any-from, any-more, any-through, count-from, count-more, count-through}
-use Rattle.types.specs.declared.Record.{Record}
-use Rattle.slots.specs.Slots.{mostSlots, slotAt, used, isFree, sameKey}
-use Rattle.formed.specs.Formed.{sixteen, markAt, sizeAt, zeroKey, zeroPart, allZero, partFormed, heldCount, usedFormed, slotFormed, mostBeats, keyTwice, keysDiffer, countAhead, inStep, countsFollow, usedCount, isRank, ranked, slotsFormed, recordFormed}
-use Rattle.formed.specs.Laws.{number-tells}
-use Rattle.formed.specs.Pieces.{fewest, most, partWithin, slotHolds, slotsHold, pairApart, pairHolds, apartBefore, slotsApart}
+use Rattle.arrival.specs.Keys.{referenceFits, messageKeyFormed, pageKeyFormed, keyFormed, totalFits, room}
 use Rattle.slots.specs.Found.{length-of-map}
+use Rattle.formed.specs.Pieces.{fewest, most}
+use Rattle.formed.specs.TestLaws.{testLaws}
 
 -- ---- keys
 pub message-key-told : (x : Key) (b : Bool) → b ≡ referenceFits (x .width) (x .reference)
@@ -63,239 +53,18 @@ module _ (x : Key) where
   pub most-message : (number m : ℕ) → (x .width ≡ 0 → ⊥) → m ≡ room (x .width) number → m ≡ most x number
   most-message number m w e = rw (ne-eqb (x .width) 0 w) e
 
--- a fault is what is not so
-pub zero-wrong : (x : Slot) (i : ℕ) → (markAt x i || not (eqb (sizeAt x i) 0)) ≡ not (zeroPart x i)
-zero-wrong x i = go (markAt x i) (eqb (sizeAt x i) 0)
-  where
-    go : (h z : Bool) → (h || not z) ≡ not (not h && z)
-    go true z = refl
-    go false z = refl
-
-pub part-wrong : (x : Slot) (i low high : ℕ) → low ≡ fewest (x .key) → high ≡ most (x .key) 2
-    → ((markAt x i && (leb (x .total) i || ltb (sizeAt x i) low || ltb high (sizeAt x i))) || (not (markAt x i) && not (eqb (sizeAt x i) 0)))
-    ≡ not (partWithin x i)
-part-wrong x i low high e f = rw (e, f) (go (markAt x i) (x .total) (sizeAt x i) (fewest (x .key)) (most (x .key) 2))
-  where
-    turn : (a b c : Bool) → ((not a || b || c) || false) ≡ not (a && (not b && not c))
-    turn true true c = refl
-    turn true false true = refl
-    turn true false false = refl
-    turn false b c = refl
-
-    outside : (a b : ℕ) → leb a b ≡ not (ltb b a)
-    outside a b = by-test (ltb b a) (λ t. rw t (lt-leb a b (ltb-true b a t))) (λ t. rw t (le-leb a b (ltb-false b a t)))
-
-    go : (h : Bool) (t n l m : ℕ) → ((h && (leb t i || ltb n l || ltb m n)) || (not h && not (eqb n 0))) ≡ not (cond h (ltb i t && (leb l n && leb n m)) (eqb n 0))
-    go true t n l m = rw (outside t i, outside l n, outside n m) (turn (ltb i t) (ltb n l) (ltb m n))
-    go false t n l m = refl
-
--- ---- the parts: the bounds of the later ones for all, and part 1 by itself
-agree : (a b : Bool) → (a ≡ true → b ≡ true) → (b ≡ true → a ≡ true) → a ≡ b
-agree true b f g = sym (f refl)
-agree false true f g = g refl
-agree false false f g = refl
-
--- a test e that tells two bounds of n
-between : (t e : Bool) (n l m : ℕ) → (e ≡ true → (l ≤ n) × (n ≤ m)) → (l ≤ n → n ≤ m → e ≡ true) → t && e ≡ t && (leb l n && leb n m)
-between true e n l m f g =
-    agree e (leb l n && leb n m) (λ p. rw (le-leb l n (f p .0), le-leb n m (f p .1)))
-    (λ p. let (q, r) = both (leb l n) (leb n m) p in g (leb-true l n q) (leb-true n m r))
-between false e n l m f g = refl
-
--- a test that follows from another beside it says nothing more
-implied : (a b : Bool) → (a ≡ true → b ≡ true) → a ≡ a && b
-implied true b h = sym (h refl)
-implied false b h = refl
-
-module _ (x : Slot) where
-  abbrev key : Key
-  key = x .key
-
-  first-part : partFormed x 0 ≡ partWithin x 0 && leb (sizeAt x 0) (most key 1)
-  unfolding lengthFits
-  first-part = go (markAt x 0) (ofPages key) (eqb (key .width) 16) (sizeAt x 0) (ltb 0 (x .total))
-    where
-      go : (h p w : Bool) (n : ℕ) (t : Bool)
-          → cond h (t && cond p (eqb n pageContent) (leb n (cond w 133 134 - 2))) (eqb n 0)
-          ≡ cond h (t && (leb (cond p pageContent 0) n && leb n (cond p pageContent (cond w 133 134 - 0)))) (eqb n 0) && leb n (cond p pageContent (cond w 133 134 - 2))
-      go true p w n false = refl
-      go true true w n true =
-          agree (eqb n pageContent) ((leb pageContent n && leb n pageContent) && leb n pageContent)
-          (λ q. let e = eqb-true n pageContent q in rw (le-leb pageContent n (omega arith), le-leb n pageContent (omega arith)))
-          (λ q. let (a, b) = both (leb pageContent n && leb n pageContent) (leb n pageContent) q in eq-eqb n pageContent (omega (arith, leb-true pageContent n (both (leb pageContent n) (leb n pageContent) a .0), leb-true n pageContent b)))
-      go true false true n true =
-          agree (leb n 131) ((leb 0 n && leb n 133) && leb n 131)
-          (λ q. let e = leb-true n 131 q in rw (le-leb 0 n (omega arith), le-leb n 133 (omega arith), q))
-          (λ q. both (leb 0 n && leb n 133) (leb n 131) q .1)
-      go true false false n true =
-          agree (leb n 132) ((leb 0 n && leb n 134) && leb n 132)
-          (λ q. let e = leb-true n 132 q in rw (le-leb 0 n (omega arith), le-leb n 134 (omega arith), q))
-          (λ q. both (leb 0 n && leb n 134) (leb n 132) q .1)
-      go false p w n t =
-          implied (eqb n 0) (leb n (cond p pageContent (cond w 133 134 - 2))) (λ q. let e = eqb-true n 0 q in le-leb n (cond p pageContent (cond w 133 134 - 2)) (omega arith))
-
-  later-part : (i : ℕ) → 0 < i → partFormed x i ≡ partWithin x i
-  unfolding lengthFits
-  later-part i l = rw (ne-eqb (i + 1) 1 (λ e. omega arith)) (go (markAt x i) (ofPages key) (eqb (key .width) 16) (sizeAt x i) (ltb i (x .total)))
-    where
-      go : (h p w : Bool) (n : ℕ) (t : Bool)
-          → cond h (t && cond p (eqb n pageContent) (leb n (cond w 133 134 - 0))) (eqb n 0)
-          ≡ cond h (t && (leb (cond p pageContent 0) n && leb n (cond p pageContent (cond w 133 134 - 0)))) (eqb n 0)
-      go true true w n t = between t (eqb n pageContent) n pageContent pageContent (λ p. let e = eqb-true n pageContent p in (omega arith, omega arith)) (λ a b. eq-eqb n pageContent (omega arith))
-      go true false w n t = between t (leb n (cond w 133 134 - 0)) n 0 (cond w 133 134 - 0) (λ p. (omega arith, leb-true n (cond w 133 134 - 0) p)) (λ a b. le-leb n (cond w 133 134 - 0) b)
-      go false p w n t = refl
-
-  pub parts-told : (a : Bool) (m : ℕ) → a ≡ allBelow mostParts (partWithin x) → m ≡ most key 1
-      → a && leb (sizeAt x 0) m ≡ allBelow mostParts (partFormed x)
-  parts-told a m e f = rw (e, f) (sym (all-but-first 15 (partFormed x) (partWithin x) (leb (sizeAt x 0) (most key 1)) first-part later-part))
-
--- ---- slots
-pub zero-told : (x : Slot) (a b : Bool) → a ≡ zeroKey (x .key) → b ≡ allBelow mostParts (zeroPart x)
-    → a && eqb (x .total) 0 && eqb (x .beats) 0 && b ≡ allZero x
-unfolding allZero
-zero-told x a b e f = rw (e, f)
-
-module _ (k : Kind) (x : Slot) where
-  pub used-told : (a b c : Bool) (m : ℕ) → a ≡ keyFormed k (x .key) → b ≡ totalFits (x .key) (x .total)
-      → c ≡ allBelow mostParts (partFormed x) → m ≡ heldCount x
-      → a && b && c && ltb 0 m && ltb m (x .total) && leb (x .beats) mostBeats ≡ usedFormed k x
-  unfolding usedFormed
-  used-told a b c m p q r s = rw (p, q, r, s)
-
-  module _ (b : Bool) (lengths : length (x .lengths) ≡ mostParts) (marks : length (x .held) ≡ mostParts) where
-    sixteen-told : sixteen x ≡ true
-    sixteen-told = rw (eq-eqb (length (x .lengths)) mostParts lengths, eq-eqb (length (x .held)) mostParts marks)
-
-    pub slot-free : x .rank ≡ 0 → b ≡ allZero x → b ≡ slotFormed k x
-    unfolding slotFormed
-    slot-free z e = rw (sixteen-told, eq-eqb (x .rank) 0 z) e
-
-    pub slot-used : (x .rank ≡ 0 → ⊥) → b ≡ usedFormed k x → b ≡ slotFormed k x
-    unfolding slotFormed
-    slot-used z e = rw (sixteen-told, ne-eqb (x .rank) 0 z) e
-
--- ---- the record
-pub twice-told : (x y : Slot) (same : Bool) → same ≡ sameKey (x .key) (y .key) → used x && used y && same ≡ used x && used y && sameKey (x .key) (y .key)
-twice-told x y same e = rw e
-
-pub pair-told : (x y : Slot) (a b c : Bool) → a ≡ (used x && used y && sameKey (x .key) (y .key)) → b ≡ countAhead x y → c ≡ countAhead y x
-    → not a && (not b && not c) ≡ pairApart x y
-pair-told x y a b c e f g = rw (e, f, g)
-
-module _ (xs : List Slot) where
-  only-these : (i : ℕ) → allBelow i (apartBefore xs) && allBelow 0 (pairHolds xs i) ≡ allBelow i (apartBefore xs)
-  only-these i = ap (λ (t : Bool). allBelow i (apartBefore xs) && t) (sym (all-from (pairHolds xs i))) ∙ and-true (allBelow i (apartBefore xs))
-
-  -- the pairs of the slots before i, and those of slot i with each before j
-  pub apart-start : true ≡ allBelow 0 (apartBefore xs) && allBelow 0 (pairHolds xs 0)
-  unfolding allBelow
-  apart-start = refl
-
-  pub apart-more : (i j : ℕ) (ok b : Bool) → ok ≡ allBelow i (apartBefore xs) && allBelow j (pairHolds xs i) → b ≡ pairHolds xs i j
-      → ok && b ≡ allBelow i (apartBefore xs) && allBelow (j + 1) (pairHolds xs i)
-  apart-more i j ok b e f = ap (λ (t : Bool). t && b) e ∙ go (allBelow i (apartBefore xs)) (all-more (pairHolds xs i) j (allBelow j (pairHolds xs i)) b refl f)
-    where
-      go : (t : Bool) → allBelow j (pairHolds xs i) && b ≡ allBelow (j + 1) (pairHolds xs i)
-          → (t && allBelow j (pairHolds xs i)) && b ≡ t && allBelow (j + 1) (pairHolds xs i)
-      go true h = h
-      go false h = refl
-
-  pub apart-next : (i j : ℕ) (ok : Bool) → ok ≡ allBelow i (apartBefore xs) && allBelow j (pairHolds xs i) → j ≤ i → i ≤ j
-      → ok ≡ allBelow (i + 1) (apartBefore xs) && allBelow 0 (pairHolds xs (i + 1))
-  apart-next i j ok e l m =
-      let s : j ≡ i = omega arith in
-      e ∙ ap (λ (m : ℕ). allBelow i (apartBefore xs) && allBelow m (pairHolds xs i)) s
-      ∙ all-more (apartBefore xs) i (allBelow i (apartBefore xs)) (apartBefore xs i) refl refl ∙ sym (only-these (i + 1))
-
-  -- behind the last slot no pair is begun
-  pub apart-told : (n i j : ℕ) (ok : Bool) → ok ≡ allBelow i (apartBefore xs) && allBelow j (pairHolds xs i) → j ≤ (n - i) * 5 → i ≤ n → n ≤ i → ok ≡ slotsApart n xs
-  apart-told n i j ok e none l m =
-      let z : j ≡ 0 = omega arith in
-      e ∙ ap (λ (m : ℕ). allBelow i (apartBefore xs) && allBelow m (pairHolds xs i)) z ∙ only-these i
-      ∙ all-through (apartBefore xs) i n l m (allBelow i (apartBefore xs)) refl
-
-  -- two tests of each pair at once
-  both-apart : (n : ℕ) → slotsApart n xs ≡ keysDiffer n xs && countsFollow n xs
-  unfolding keysDiffer countsFollow
-  both-apart n =
-      all-same n (apartBefore xs) (λ i. allBelow i (λ j. not (keyTwice xs i j)) && allBelow i (inStep xs i)) (λ i l. all-both i (λ j. not (keyTwice xs i j)) (inStep xs i))
-      ∙ all-both n (λ i. allBelow i (λ j. not (keyTwice xs i j))) (λ i. allBelow i (inStep xs i))
-
-  pub ranked-told : (n m r : ℕ) (ok : Bool) → m ≡ usedCount n xs → ok ≡ allBelow r (λ r. isRank n xs (r + 1)) → r ≤ m → m ≤ r
-      → ok ≡ ranked n xs
-  unfolding ranked
-  ranked-told n m r ok c e l h = rw (← c) (all-through (λ r. isRank n xs (r + 1)) r m l h ok e)
-
-  pub slot-more : (n i : ℕ) (k : Kind) (ok b : Bool) → ok ≡ allBelow i (slotHolds n k xs) → b ≡ slotFormed k (slotAt xs i)
-      → ok && (b && (ltb i n || isFree (slotAt xs i))) ≡ allBelow (i + 1) (slotHolds n k xs)
-  slot-more n i k ok b e f = all-more (slotHolds n k xs) i ok _ e (rw f)
-
-pub formed-told : (r : Record) (a b c : Bool) → (not (eqb (r .count) 0) && not (ltb mostSlots (r .count))) ≡ true → length (r .slots) ≡ mostSlots
-    → a ≡ slotsHold (r .count) (r .kind) (r .slots) → b ≡ slotsApart (r .count) (r .slots) → c ≡ ranked (r .count) (r .slots)
-    → a && b && c ≡ recordFormed (r .count) r
-unfolding slotsFormed
-formed-told r a b c t l p q s =
-    let each : ℕ → Bool = λ i. slotFormed (r .kind) (slotAt (r .slots) i) in
-    let free : ℕ → Bool = λ i. ltb i (r .count) || isFree (slotAt (r .slots) i) in
-    rw (eq-eqb (r .count) (r .count) refl, t, eq-eqb (length (r .slots)) mostSlots l, p, q, s, all-both mostSlots each free, both-apart (r .slots) (r .count))
-    (turn (allBelow mostSlots each && allBelow mostSlots free) (keysDiffer (r .count) (r .slots)) (countsFollow (r .count) (r .slots)) (ranked (r .count) (r .slots)))
-  where
-    turn : (a k f d : Bool) → a && (k && f) && d ≡ a && k && d && f
-    turn true true true true = refl
-    turn true true true false = refl
-    turn true true false true = refl
-    turn true true false false = refl
-    turn true false f d = refl
-    turn false k f d = refl
-
-pub number-inside : (n : ℕ) → (not (eqb n 0) && not (ltb mostSlots n)) ≡ true → n ≤ mostSlots
-number-inside n t = number-tells n t .1
-
-pub not-formed : (r : Record) → (not (eqb (r .count) 0) && not (ltb mostSlots (r .count))) ≡ false → false ≡ recordFormed (r .count) r
-unfolding slotsFormed
-not-formed r t = rw (eq-eqb (r .count) (r .count) refl, t)
-
 pub ruleset formedSteps = (
   needs,
   length-of-map,
-  all-from,
-  all-more,
-  any-from,
-  any-more,
-  count-from,
-  count-more,
-  all-through,
-  any-through,
-  count-through,
+  testLaws,
   message-key-told,
   page-key-told,
   key-of-pages,
   key-of-message,
   total-of-pages,
   total-of-message,
-  fault-from,
-  fault-more,
-  fault-through,
   fewest-page,
   fewest-message,
   most-page,
   most-message,
-  zero-wrong,
-  part-wrong,
-  parts-told,
-  zero-told,
-  used-told,
-  slot-free,
-  slot-used,
-  twice-told,
-  pair-told,
-  apart-start,
-  apart-more,
-  apart-next,
-  apart-told,
-  slot-more,
-  not-formed,
-  number-inside,
-  ranked-told,
-  formed-told,
 )

@@ -1,3 +1,4 @@
 pub mod Formed
 pub mod Laws
 pub mod Pieces
+pub mod TestLaws

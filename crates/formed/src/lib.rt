@@ -24,7 +24,7 @@ ghost use Rattle.formed.specs.Formed.{zeroKey, zeroPart, allZero, partFo
 ghost use Rattle.formed.specs.Pieces.{fewest, most, slotsHold, pairApart, slotsApart};
 
 // A flag as a number, to count it.
-fn one(flag: bool) -> u8
+pub fn one(flag: bool) -> u8
     ensures { λ r. ⌜ (r ≡ cond flag 1 0) × (r ≤ 1) ⌝ }
 {
     if flag { 1 } else { 0 }
@@ -48,7 +48,7 @@ fn page_key_formed(kind: Kind, key: Key) -> bool
 }
 
 // Whether a key is one that reading gives for a record of that kind.
-fn key_formed(kind: Kind, key: Key) -> bool
+pub fn key_formed(kind: Kind, key: Key) -> bool
     ensures { λ r. ⌜ r ≡ keyFormed kind key ⌝ }
 {
     if key.width == 0 {
@@ -58,7 +58,7 @@ fn key_formed(kind: Kind, key: Key) -> bool
 }
 
 // Whether a series with that key can have that total.
-fn total_fits(key: Key, total: u8) -> bool
+pub fn total_fits(key: Key, total: u8) -> bool
     ensures { λ r. ⌜ r ≡ totalFits key total ⌝ }
 {
     if key.width == 0 {
@@ -68,7 +68,7 @@ fn total_fits(key: Key, total: u8) -> bool
 }
 
 // The fewest and the most octets of part `number` of a series with that key.
-fn fewest(key: Key) -> u8
+pub fn fewest(key: Key) -> u8
     ensures { λ r. ⌜ r ≡ fewest key ⌝ }
 {
     if key.width == 0 {
@@ -77,7 +77,7 @@ fn fewest(key: Key) -> u8
     0
 }
 
-fn most(key: Key, number: usize) -> u8
+pub fn most(key: Key, number: usize) -> u8
     ensures { λ r. ⌜ r ≡ most key number ⌝ }
 {
     if key.width == 0 {
@@ -87,7 +87,7 @@ fn most(key: Key, number: usize) -> u8
 }
 
 // Whether a free slot's key is all zero.
-fn zero_key(key: Key) -> bool
+pub fn zero_key(key: Key) -> bool
     ensures { λ r. ⌜ r ≡ zeroKey key ⌝ }
 {
     (key.sender == 0)
@@ -180,7 +180,8 @@ fn used_formed(kind: Kind, x: Slot) -> bool
 fn slot_formed(kind: Kind, x: Slot) -> bool
     ensures { λ r. ⌜ r ≡ slotFormed kind x ⌝ }
 {
-    if x.rank == 0 {
+    let free = x.rank == 0;
+    if free {
         return all_zero(x);
     }
     used_formed(kind, x)
