@@ -1,3 +1,4 @@
 pub mod Steps
 pub mod ReadSteps
 pub mod WriteSteps
+pub mod KnownSteps

@@ -1,5 +1,5 @@
 -- What a change of a state promises: of its octets, and of the record that they hold.
-use Prim.Native.Nat.{ℕ}
+use Prim.Native.Nat.{ℕ, _+_, _/_, _%_}
 use mathlib.Core.Path.{_≡_}
 use mathlib.Core.Bool.{true}
 use mathlib.Core.List.{List}
@@ -28,6 +28,16 @@ pub record Stored (s t : List ℕ) (i : ℕ) (x : List ℕ) : Type 0 where
 pub record Became (s t : List ℕ) (r : Record) : Type 0 where
   pub still : known s ≡ true → known t ≡ true
   pub now : known s ≡ true → recordIn t ≡ r
+
+-- a slot's octets with a number of two octets from place p on; with another sender, and with the three numbers of a key behind its width
+abbrev pub withPair : List ℕ → ℕ → ℕ → List ℕ
+withPair x p n = set (set x p (n / 256)) (p + 1) (n % 256)
+
+abbrev pub withSender : List ℕ → ℕ → List ℕ
+withSender x n = withPair (withPair x 2 (n / 65536)) 4 (n % 65536)
+
+abbrev pub withNumbers : List ℕ → ℕ → ℕ → ℕ → List ℕ
+withNumbers x a b c = withPair (withPair (withPair x 7 a) 9 b) 11 c
 
 -- the slot with another key, and with another total
 abbrev pub withKey : Key → Slot → Slot

@@ -1,6 +1,6 @@
 -- What the octets of a slot say of the record, and what a change of them does to it. A field is told by its place in a slot's octets, here and
 -- nowhere else: the laws at the end speak of records and slots alone.
-use Prim.Native.Nat.{ℕ, zero, suc, _+_, _*_, _≤_, _<_}
+use Prim.Native.Nat.{ℕ, zero, suc, _+_, _-_, _*_, _/_, _%_, _≤_, _<_}
 use mathlib.Core.Path.{_≡_, refl, sym, ap, _∙_}
 use mathlib.Core.Bool.{Bool, true, false, not, _&&_}
 use mathlib.Core.List.{List, [], _∷_, map}
@@ -8,19 +8,21 @@ use native.Mathlib.Omega.{arith}
 use lib.ListN.{length, getD, set, take, drop, length-set, length-map, length-drop, List·getD-map, List·getD-eq-default}
 use lib.Seq.{getD-take, getD-drop, set-getD, getD-set-same, getD-set-other, set-out, set-set, take-set-le, take-set-lt, drop-set-lt, drop-set-add, length-take-le, drop-drop}
 use lib.Dec.{eqb, leb, ltb}
-use borrow.Author.Tests.{eqb-true, ltb-true, ltb-false}
+use borrow.Author.Tests.{eqb-true, eq-eqb, ne-eqb, ltb-true, ltb-false, lt-ltb, le-ltb, le-leb}
 use Rattle.octets.specs.Octets.{numberOf}
 use Rattle.octets.specs.Tests.{both, both-hold, Same, same, other, same?}
+use Rattle.types.specs.declared.Key.{Key}
 use Rattle.types.specs.declared.Slot.{Slot}
 use Rattle.types.specs.declared.Record.{Record}
 use Rattle.arrival.specs.Message.{mostParts}
 use Rattle.slots.specs.Below.{allBelow}
 use Rattle.slots.specs.BelowLaws.{all-at, all-hold, all-same}
-use Rattle.slots.specs.Slots.{mostSlots, slotAt, atRank, atCount, withSlots}
+use Rattle.slots.specs.Slots.{mostSlots, slotAt, opened, freeSlot, withPart, atRank, atCount, atFront, withSlots}
+use Rattle.slots.specs.Found.{withPartIn}
 use Rattle.slots.specs.FrontLaws.{past}
 use Rattle.layout.specs.Blocks.{slotSize, blocks, blocks-length, block-size, block-octet, block-part, block-stored}
-use Rattle.layout.specs.Layout.{formatNumber, stateSize, headSize, place, own, isMark, wideNumber, slotOf, slotIn, recordIn, markFits, marksFit, headFits, known}
-use Rattle.layout.specs.Changes.{slotFrom, withSlot, Stored, Became, withTotal}
+use Rattle.layout.specs.Layout.{formatNumber, stateSize, headSize, place, own, isMark, wideNumber, slotOf, slotIn, recordIn, markFits, marksFit, slotMarksFit, headFits, known}
+use Rattle.layout.specs.Changes.{slotFrom, withSlot, Stored, Became, withPair, withSender, withNumbers, withKey, withTotal}
 
 map-set : {A B : Type 0} (f : A → B) (l : List A) (i : ℕ) (a : A) → map f (set l i a) ≡ set (map f l) i (f a)
 map-set f [] i a = refl
@@ -59,7 +61,7 @@ module _ (s : List ℕ) (i : ℕ) where
 module _ (s : List ℕ) (k : known s ≡ true) where
   pub known-head : headFits s ≡ true
   unfolding known
-  known-head = both (headFits s) (allBelow mostSlots (λ i. marksFit (own i s))) k .0
+  known-head = both (headFits s) (allBelow mostSlots (slotMarksFit s)) k .0
 
   pub known-length : length s ≡ stateSize
   known-length =
@@ -67,7 +69,7 @@ module _ (s : List ℕ) (k : known s ≡ true) where
 
   pub own-marks : (i : ℕ) → i < mostSlots → marksFit (own i s) ≡ true
   unfolding known
-  own-marks i l = all-at mostSlots (λ i. marksFit (own i s)) (both (headFits s) (allBelow mostSlots (λ i. marksFit (own i s))) k .1) i l
+  own-marks i l = all-at mostSlots (slotMarksFit s) (both (headFits s) (allBelow mostSlots (slotMarksFit s)) k .1) i l
 
   pub own-size : (i : ℕ) → i < mostSlots → length (own i s) ≡ slotSize
   own-size i l =
@@ -111,20 +113,28 @@ module _ (s : List ℕ) (i : ℕ) where
   pub stored-own : Stored s s i (own i s)
   stored-own = record { size = refl; head = refl; own = sym (set-getD (blocks mostSlots (drop headSize s)) i []) }
 
-  pub stored-more : (t u x : List ℕ) (p v : ℕ) → Stored s t i x → Stored t u i (set (own i t) p v) → Stored s u i (set x p v)
-  stored-more t u x p v g h = record {
-    size = h .size ∙ g .size;
-    head = h .head ∙ g .head;
-    own = go (ltb i mostSlots) refl;
-  }
+  -- what was stored, changed as f does
+  stored-then : (t u x : List ℕ) (f : List ℕ → List ℕ) → Stored s t i x → Stored t u i (f (own i t)) → Stored s u i (f x)
+  stored-then t u x f g h = record { size = h .size ∙ g .size; head = h .head ∙ g .head; own = go (ltb i mostSlots) refl }
     where
-      go : (b : Bool) → ltb i mostSlots ≡ b → blocks mostSlots (drop headSize u) ≡ set (blocks mostSlots (drop headSize s)) i (set x p v)
-      go true e =
-          rw (h .own, own-stored t x g (ltb-true i mostSlots e), g .own, set-set)
+      go : (b : Bool) → ltb i mostSlots ≡ b → blocks mostSlots (drop headSize u) ≡ set (blocks mostSlots (drop headSize s)) i (f x)
+      go true e = rw (h .own, own-stored t x g (ltb-true i mostSlots e), g .own, set-set)
       go false e =
           let l : mostSlots ≤ i = ltb-false i mostSlots e in
-          h .own ∙ set-out (blocks mostSlots (drop headSize t)) i (set (own i t) p v) (rw (blocks-length mostSlots (drop headSize t)) l)
-          ∙ g .own ∙ blocks-out x l ∙ sym (blocks-out (set x p v) l)
+          h .own ∙ set-out (blocks mostSlots (drop headSize t)) i (f (own i t)) (rw (blocks-length mostSlots (drop headSize t)) l)
+          ∙ g .own ∙ blocks-out x l ∙ sym (blocks-out (f x) l)
+
+  pub stored-more : (t u x : List ℕ) (p v : ℕ) → Stored s t i x → Stored t u i (set (own i t) p v) → Stored s u i (set x p v)
+  stored-more t u x p v g h = stored-then t u x (λ y. set y p v) g h
+
+  pub stored-sender : (t u : List ℕ) (n a b : ℕ) → a ≡ n / 65536 → b ≡ n % 65536 → Stored s t i (withPair (own i s) 2 a) → Stored t u i (withPair (own i t) 4 b)
+      → Stored s u i (withSender (own i s) n)
+  stored-sender t u n a b e f g h = rw (← e, ← f) (stored-then t u (withPair (own i s) 2 a) (λ y. withPair y 4 b) g h)
+
+  pub stored-numbers : (t u v : List ℕ) (a b c : ℕ) → Stored s t i (withPair (own i s) 7 a) → Stored t u i (withPair (own i t) 9 b)
+      → Stored u v i (withPair (own i u) 11 c) → Stored s v i (withNumbers (own i s) a b c)
+  stored-numbers t u v a b c g h k =
+      stored-then u v (withPair (withPair (own i s) 7 a) 9 b) (λ y. withPair y 11 c) (stored-then t u (withPair (own i s) 7 a) (λ y. withPair y 9 b) g h) k
 
 -- the record that t holds then
 module _ (s t : List ℕ) (i : ℕ) (x : List ℕ) (h : Stored s t i x) where
@@ -134,9 +144,9 @@ module _ (s t : List ℕ) (i : ℕ) (x : List ℕ) (h : Stored s t i x) where
   still-known : known s ≡ true → (i < mostSlots → marksFit x ≡ true) → known t ≡ true
   unfolding known
   still-known k m =
-      both-hold (headFits t) (allBelow mostSlots (λ j. marksFit (own j t)))
+      both-hold (headFits t) (allBelow mostSlots (slotMarksFit t))
       (rw (h .size, head-same 0 (omega arith), head-same 1 (omega arith)) (known-head s k))
-      (all-hold mostSlots (λ j. marksFit (own j t)) (λ j l. go j l (same? j i)))
+      (all-hold mostSlots (slotMarksFit t) (λ j l. go j l (same? j i)))
     where
       go : (j : ℕ) → j < mostSlots → Same j i → marksFit (own j t) ≡ true
       go j l (same e p) =
@@ -162,6 +172,15 @@ module _ (s t : List ℕ) (i : ℕ) (x : List ℕ) (h : Stored s t i x) where
       go k false e =
           let l : mostSlots ≤ i = ltb-false i mostSlots e in
           ap (λ (xs : List Slot). withSlots (recordIn s) xs) (out (slotIn x) l ∙ sym (out y l))
+
+-- no slot i, or nothing new in it
+pub none-became : (s : List ℕ) (i : ℕ) (y : Slot) → mostSlots ≤ i → Became s s (withSlot s i y)
+none-became s i y l =
+    let e : set (recordIn s .slots) i y ≡ recordIn s .slots = set-out (recordIn s .slots) i y (rw (slots-long s) l) in
+    record { still = λ k. k; now = λ k. rw e }
+
+unchanged : (s : List ℕ) (i : ℕ) → Became s s (withSlot s i (slotFrom s i))
+unchanged s i = record { still = λ k. k; now = λ k. rw (set-getD (recordIn s .slots) i past) }
 
 -- ---- the fields of a slot, by their places in its octets
 -- a list of at least n
@@ -272,3 +291,132 @@ module _ (s t : List ℕ) (i : ℕ) where
 
   pub total-set : (v : ℕ) → Stored s t i (set (own i s) 13 v) → Became s t (withSlot s i (withTotal v (slotFrom s i)))
   total-set v h = field-set 13 v (withTotal v) (omega arith) (λ x e. slot-total x v (long 14 x (omega arith))) h
+
+-- ---- a part: its length, then its mark
+module _ (x : List ℕ) (k : ℕ) (l : k < mostParts) where
+  slot-length : (n : ℕ) → slotIn (set x (14 + k) n)
+      ≡ record { rank = slotIn x .rank; beats = slotIn x .beats; key = slotIn x .key; total = slotIn x .total; lengths = set (slotIn x .lengths) k n; held = slotIn x .held }
+  unfolding slotIn slotOf
+  slot-length n =
+      rw (take-set-le 14 x (14 + k) n (omega arith), drop-set-add 14 x k n, take-set-lt 16 (drop 14 x) k n l, drop-set-lt 30 x (14 + k) n (omega arith))
+
+  slot-mark : slotIn (set x (30 + k) 1)
+      ≡ record { rank = slotIn x .rank; beats = slotIn x .beats; key = slotIn x .key; total = slotIn x .total; lengths = slotIn x .lengths; held = set (slotIn x .held) k true }
+  unfolding slotIn slotOf
+  slot-mark =
+      let e : 14 + (16 + k) ≡ 30 + k = omega arith in
+      rw (take-set-le 14 x (30 + k) 1 (omega arith), drop-set-add 30 x k 1, take-set-lt 16 (drop 30 x) k 1 l, map-set isMark (take 16 (drop 30 x)) k 1, ← e, drop-set-add 14 x (16 + k) 1, take-set-le 16 (drop 14 x) (16 + k) 1 (omega arith))
+
+  mark-marks : marksFit x ≡ true → marksFit (set x (30 + k) 1) ≡ true
+  unfolding marksFit
+  mark-marks e = all-hold mostParts (markFits (set x (30 + k) 1)) (λ j m. go j m (same? j k))
+    where
+      here : (q : ℕ) → q ≤ 1 → leb q 1 ≡ true
+      here q m = le-leb q 1 m
+
+      go : (j : ℕ) → j < mostParts → Same j k → markFits (set x (30 + k) 1) j ≡ true
+      go j m (same f p) = here (getD (set x (30 + k) 1) (30 + j) 0) (rw p (low (30 + k) x))
+        where
+          low : (q : ℕ) (y : List ℕ) → getD (set y q 1) q 0 ≤ 1
+          low q [] = omega arith
+          low zero (a ∷ y) = omega arith
+          low (suc q) (a ∷ y) = low q y
+      go j m (other f p) =
+          ap (λ (q : ℕ). leb q 1) (getD-set-other x (30 + k) (30 + j) 1 0 (λ g. p (omega arith))) ∙ all-at mostParts (markFits x) e j m
+
+module _ (s : List ℕ) (i number n : ℕ) where
+  pub part-zero : number ≡ 0 → Became s s (withSlot s i (withPartIn (slotFrom s i) number n))
+  part-zero e = rw (eq-eqb number 0 e) (unchanged s i)
+
+  pub part-past : mostParts < number → Became s s (withSlot s i (withPartIn (slotFrom s i) number n))
+  part-past l = rw (ne-eqb number 0 (λ e. omega arith), lt-ltb mostParts number l) (unchanged s i)
+
+  pub part-set : (t u : List ℕ) → (number ≡ 0 → ⊥) → number ≤ mostParts → Stored s t i (set (own i s) (13 + number) n)
+      → Stored t u i (set (own i t) (29 + number) 1) → Became s u (withSlot s i (withPartIn (slotFrom s i) number n))
+  part-set t u z m g h =
+      let j : ℕ = number - 1 in
+      let l : j < mostParts = omega arith in
+      let p : 13 + number ≡ 14 + j = omega arith in
+      let q : 29 + number ≡ 30 + j = omega arith in
+      let x : List ℕ = own i s in
+      let y : List ℕ = set x (14 + j) n in
+      let stored : Stored s u i (set y (30 + j) 1) = rw (← p, ← q) (stored-more s i t u (set x (13 + number) n) (29 + number) 1 g h) in
+      let said : slotIn (set y (30 + j) 1) ≡ withPart (slotIn x) number n = rw (slot-mark y j l, slot-length x j l n) in
+      rw (ne-eqb number 0 z, le-ltb mostParts number m)
+      (stored-became s u i (set y (30 + j) 1) stored (withPart (slotFrom s i) number n)
+      (λ k o. (mark-marks y j l (head-marks x (14 + j) n (omega arith) (own-marks s k i o)), said ∙ ap (λ (w : Slot). withPart w number n) (sym (slot-here s i)))))
+
+-- ---- a key
+pair-marks : (x : List ℕ) (p n : ℕ) → p + 1 < 30 → marksFit x ≡ true → marksFit (withPair x p n) ≡ true
+pair-marks x p n l e = head-marks (set x p (n / 256)) (p + 1) (n % 256) l (head-marks x p (n / 256) (omega arith) e)
+
+slot-key : (x : List ℕ) (a b c d e f g h i j k : ℕ) → Long 13 x
+    → slotIn (set (set (set (set (set (set (set (set (set (set (set x 2 a) 3 b) 4 c) 5 d) 6 e) 7 f) 8 g) 9 h) 10 i) 11 j) 12 k)
+    ≡ withKey (record { sender = wideNumber (numberOf a b) (numberOf c d); width = e; reference = numberOf f g; serial = record { 0 = numberOf h i }; identifier = record { 0 = numberOf j k } }) (slotIn x)
+unfolding slotIn slotOf
+slot-key x a b c d e f g h i j k (more (more (more (more (more (more (more (more (more (more (more (more (more any))))))))))))) = refl
+
+pair-number : (n : ℕ) → numberOf (n / 256) (n % 256) ≡ n
+pair-number n = omega arith
+
+module _ (x : List ℕ) (key : Key) where
+  keyed : List ℕ
+  keyed = withNumbers (set (withSender x (key .sender)) 6 (key .width)) (key .reference) (key .serial .0) (key .identifier .0)
+
+  keyed-marks : marksFit x ≡ true → marksFit keyed ≡ true
+  unfolding keyed
+  keyed-marks m =
+      let a = pair-marks x 2 (key .sender / 65536) (omega arith) m in
+      let b = pair-marks (withPair x 2 (key .sender / 65536)) 4 (key .sender % 65536) (omega arith) a in
+      let c = head-marks (withSender x (key .sender)) 6 (key .width) (omega arith) b in
+      let y : List ℕ = set (withSender x (key .sender)) 6 (key .width) in
+      let d = pair-marks y 7 (key .reference) (omega arith) c in
+      let e = pair-marks (withPair y 7 (key .reference)) 9 (key .serial .0) (omega arith) d in
+      pair-marks (withPair (withPair y 7 (key .reference)) 9 (key .serial .0)) 11 (key .identifier .0) (omega arith) e
+
+  keyed-slot : length x ≡ slotSize → slotIn keyed ≡ withKey key (slotIn x)
+  unfolding keyed
+  keyed-slot l =
+      let h : ℕ = key .sender / 65536 in
+      let o : ℕ = key .sender % 65536 in
+      let sender : wideNumber (numberOf (h / 256) (h % 256)) (numberOf (o / 256) (o % 256)) ≡ key .sender = omega arith in
+      slot-key x _ _ _ _ _ _ _ _ _ _ _ (long 13 x (omega arith))
+      ∙ (λ j. withKey (record { sender = sender j; width = key .width; reference = pair-number (key .reference) j; serial = record { 0 = pair-number (key .serial .0) j }; identifier = record { 0 = pair-number (key .identifier .0) j } }) (slotIn x))
+
+pub key-set : (s t u v : List ℕ) (i : ℕ) (key : Key) → Stored s t i (withSender (own i s) (key .sender)) → Stored t u i (set (own i t) 6 (key .width))
+    → Stored u v i (withNumbers (own i u) (key .reference) (key .serial .0) (key .identifier .0)) → Became s v (withSlot s i (withKey key (slotFrom s i)))
+unfolding keyed
+key-set s t u v i key g h o =
+    let two : Stored s u i (set (withSender (own i s) (key .sender)) 6 (key .width)) = stored-more s i t u (withSender (own i s) (key .sender)) 6 (key .width) g h in
+    let all : Stored s v i (keyed (own i s) key) =
+    stored-then s i u v (set (withSender (own i s) (key .sender)) 6 (key .width)) (λ y. withNumbers y (key .reference) (key .serial .0) (key .identifier .0)) two o in
+    stored-became s v i (keyed (own i s) key) all (withKey key (slotFrom s i))
+    (λ k l. (keyed-marks (own i s) key (own-marks s k i l), keyed-slot (own i s) key (own-size s k i l) ∙ ap (withKey key) (sym (slot-here s i))))
+
+-- ---- one change of slot i after another
+module _ (s t : List ℕ) (i : ℕ) (a : Slot) (g : Became s t (withSlot s i a)) where
+  slot-now : known s ≡ true → i < mostSlots → slotFrom t i ≡ a
+  slot-now k l = rw (g .now k) (getD-set-same (recordIn s .slots) i a past (rw (slots-long s) l))
+
+  pub became-then : (u : List ℕ) (f : Slot → Slot) → Became t u (withSlot t i (f (slotFrom t i))) → Became s u (withSlot s i (f a))
+  became-then u f h = record { still = λ k. h .still (g .still k); now = λ k. h .now (g .still k) ∙ go k (ltb i mostSlots) refl }
+    where
+      out : (r : List ℕ) (z : Slot) → mostSlots ≤ i → set (recordIn r .slots) i z ≡ recordIn r .slots
+      out r z l = set-out (recordIn r .slots) i z (rw (slots-long r) l)
+
+      go : known s ≡ true → (b : Bool) → ltb i mostSlots ≡ b → withSlot t i (f (slotFrom t i)) ≡ withSlot s i (f a)
+      go k true e = rw (slot-now k (ltb-true i mostSlots e), g .now k, set-set)
+      go k false e =
+          let l : mostSlots ≤ i = ltb-false i mostSlots e in
+          rw (out t (f (slotFrom t i)) l, out s (f a) l, g .now k, out s a l)
+
+module _ (s : List ℕ) (i : ℕ) where
+  -- the most recent, with no beat since
+  pub became-front : (t u : List ℕ) → Became s t (withSlot s i (atRank 1 (slotFrom s i))) → Became t u (withSlot t i (atCount 0 (slotFrom t i)))
+      → Became s u (withSlot s i (atFront (slotFrom s i)))
+  became-front t u g h = became-then s t i (atRank 1 (slotFrom s i)) g u (atCount 0) h
+
+  pub became-opened : (t u v : List ℕ) (key : Key) (n : ℕ) → Became s t (withSlot s i freeSlot) → Became t u (withSlot t i (withKey key (slotFrom t i)))
+      → Became u v (withSlot u i (withTotal n (slotFrom u i))) → Became s v (withSlot s i (opened key n))
+  became-opened t u v key n g h k =
+      became-then s u i (opened key 0) (became-then s t i freeSlot g u (withKey key) h) v (withTotal n) k

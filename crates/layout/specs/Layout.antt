@@ -27,10 +27,11 @@ use Rattle.types.specs.declared.Kind.the-variants.{Command, Response}
 use Rattle.types.specs.declared.Key.{Key}
 use Rattle.types.specs.declared.Slot.{Slot}
 use Rattle.types.specs.declared.Record.{Record}
+use Rattle.types.specs.Refusals.{Outcome, refused, gives}
 use Rattle.octets.specs.Octets.{numberOf}
 use Rattle.arrival.specs.Message.{mostParts}
 use Rattle.slots.specs.Below.{allBelow}
-use Rattle.slots.specs.Slots.{mostSlots}
+use Rattle.slots.specs.Slots.{mostSlots, isSlotNumber, freshRecord}
 use Rattle.layout.specs.Blocks.{slotSize, blocks, laid}
 
 abbrev pub formatNumber : ℕ
@@ -87,13 +88,16 @@ markFits x k = leb (getD x (30 + k) 0) 1
 unfoldable pub marksFit : List ℕ → Bool
 marksFit x = allBelow mostParts (markFits x)
 
+abbrev pub slotMarksFit : List ℕ → ℕ → Bool
+slotMarksFit s i = marksFit (own i s)
+
 abbrev pub headFits : List ℕ → Bool
 headFits s = eqb (length s) stateSize && eqb (getD s 0 0) formatNumber && leb (getD s 1 0) 1
 
 -- As many as a state has, of this format, with a kind and with marks that are one or the other. Every number of slots is let through here, as in
 -- a record; that it is 1 to 5 is a matter of a well-formed record.
 unfoldable pub known : List ℕ → Bool
-known s = headFits s && allBelow mostSlots (λ i. marksFit (own i s))
+known s = headFits s && allBelow mostSlots (slotMarksFit s)
 
 -- ---- the octets of a record
 abbrev pub kindOctet : Kind → ℕ
@@ -119,3 +123,15 @@ slotOctets x = headOctets x ++ (x .lengths ++ map markOctet (x .held))
 
 unfoldable pub octetsOf : Record → List ℕ
 octetsOf r = formatNumber ∷ kindOctet (r .kind) ∷ r .count ∷ laid (map slotOctets (r .slots))
+
+-- ---- a fresh state
+-- what making one comes to, and the octets that are left: 1 for octets of another length, 25 as for a record; a refusal leaves them as they were
+abbrev pub Left : Type 0
+Left = Outcome Unit × List ℕ
+
+abbrev pub left : Outcome Unit → List ℕ → Left
+left answer s = (answer, s)
+
+abbrev pub makingState : List ℕ → ℕ → Kind → Left
+makingState s n k =
+    cond (eqb (length s) stateSize) (cond (isSlotNumber n) (left (gives tt) (octetsOf (freshRecord n k))) (left (refused 25) s)) (left (refused 1) s)

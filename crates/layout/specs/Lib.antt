@@ -2,3 +2,4 @@ pub mod Blocks
 pub mod Layout
 pub mod Changes
 pub mod Laws
+pub mod OctetLaws

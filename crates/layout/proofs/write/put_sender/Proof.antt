@@ -1,0 +1,10 @@
+-- `put_sender` meets its contract: each need follows by a law of `WriteSteps`. Assumes nothing.
+use Rattle.layout.proofs.WriteSteps.{writeSteps}
+use Rattle.layout.proofs.write.put_sender.Statement.{statement}
+use Rattle.layout.proofs.write.put_sender.Tie as tie
+
+pub put-sender-spec : {M : Type 1} → statement M
+put-sender-spec =
+    tie.close
+    (tie.spec (λ c κs. search writeSteps) (λ c κs. search writeSteps) (λ c κs. search writeSteps)
+    (λ c κs. search writeSteps) (λ c. search writeSteps))
