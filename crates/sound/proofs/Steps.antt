@@ -1,0 +1,65 @@
+-- What the proofs of the test of a state cite: the laws of the tests of a record, and what octets that are a state tell.
+use Prim.Native.Nat.{ℕ}
+use mathlib.Core.Path.{_≡_, sym, _∙_}
+use mathlib.Core.Bool.{Bool, true, false, not, cond, _&&_}
+use mathlib.Core.List.{List}
+use lib.Dec.{eqb, ltb}
+use borrow.Author.Needs.{needs}
+use Rattle.types.specs.declared.Kind.{Kind}
+use Rattle.types.specs.declared.Slot.{Slot}
+use Rattle.slots.specs.Slots.{mostSlots, used}
+use Rattle.formed.specs.Formed.{ranked, recordFormed}
+use Rattle.formed.specs.Pieces.{slotsHold, slotsApart}
+use Rattle.formed.specs.TestLaws.{testLaws, formed-told, not-formed}
+use Rattle.layout.specs.Layout.{recordIn, known}
+use Rattle.layout.specs.Laws.{slots-long, lengths-sixteen, marks-sixteen}
+
+-- ---- what is read
+pub one-counted : (a b : Bool) (m : ℕ) → m ≡ cond a 1 0 → a ≡ b → m ≡ cond b 1 0
+one-counted a b m e f = rw (e, f)
+
+pub used-read : (x : Slot) (r : ℕ) → r ≡ x .rank → not (eqb r 0) ≡ used x
+used-read x r e = rw e
+
+pub rank-read : (x : Slot) (q r : ℕ) → q ≡ x .rank → eqb q r ≡ eqb (x .rank) r
+rank-read x q r e = rw e
+
+-- ---- the state
+-- its number of slots, read and widened
+module _ (s : List ℕ) (n c : ℕ) (wide : n ≡ c) (read : c ≡ recordIn s .count) where
+  number : n ≡ recordIn s .count
+  number = wide ∙ read
+
+  pub record-told : (k : Kind) (a b d : Bool) → k ≡ recordIn s .kind → (not (eqb n 0) && not (ltb mostSlots n)) ≡ true
+      → a ≡ slotsHold n k (recordIn s .slots) → b ≡ slotsApart n (recordIn s .slots) → d ≡ ranked n (recordIn s .slots)
+      → a && b && d ≡ recordFormed (recordIn s .count) (recordIn s)
+  record-told k a b d o t p q r = formed-told (recordIn s) a b d (rw number at t) (slots-long s) (rw (number, o) at p) (rw number at q) (rw number at r)
+
+  pub record-none : (not (eqb n 0) && not (ltb mostSlots n)) ≡ false → false ≡ recordFormed (recordIn s .count) (recordIn s)
+  record-none t = not-formed (recordIn s) (rw number at t)
+
+module _ (s : List ℕ) (b : Bool) (is : b ≡ known s) where
+  pub is-state : b ≡ true → known s ≡ true
+  is-state t = sym is ∙ t
+
+  pub state-told : (c : Bool) → b ≡ true → c ≡ recordFormed (recordIn s .count) (recordIn s) → c ≡ known s && recordFormed (recordIn s .count) (recordIn s)
+  state-told c t e = rw (← is, t) e
+
+  pub no-state : b ≡ false → false ≡ known s && recordFormed (recordIn s .count) (recordIn s)
+  no-state t = rw (← is, t)
+
+pub ruleset steps = (
+  needs,
+  testLaws,
+  slots-long,
+  lengths-sixteen,
+  marks-sixteen,
+  one-counted,
+  used-read,
+  rank-read,
+  record-told,
+  record-none,
+  is-state,
+  state-told,
+  no-state,
+)
