@@ -1,116 +1,25 @@
--- What the proofs of the beat cite: one law for each return, call and turn of the loop, over plain variables.
-use Prim.Native.Nat.{ℕ, _+_, _-_, _≤_, _<_}
-use mathlib.Core.Path.{_≡_, refl, sym, _∙_}
-use mathlib.Core.Bool.{Bool, true, false, not, cond, _&&_}
+-- What the proofs of the beat cite: the laws of its turns, and one law for each return of the call.
+use Prim.Native.Nat.{ℕ, _≤_}
+use mathlib.Core.Path.{_≡_}
+use mathlib.Core.Bool.{Bool, true, false, not}
 use native.Mathlib.Omega.{arith}
-use native.Mathlib.Numerals.{add-one}
-use lib.ListN.{length, set, length-set}
-use lib.Dec.{leb}
-use mir.Syntax.{w8}
-use mir.Val.{Fits, boolByte}
+use lib.ListN.{length}
 use borrow.Author.Needs.{needs}
-use borrow.Author.Tests.{eq-eqb, ne-eqb, le-leb, lt-leb}
-use Rattle.octets.specs.Tests.{clash}
-use Rattle.types.specs.declared.Slot.{Slot}
+use borrow.Author.Tests.{eq-eqb, ne-eqb}
 use Rattle.types.specs.declared.Record.{Record}
 use Rattle.types.specs.Refusals.{refused, gives}
-use Rattle.slots.specs.Below.{countBelow}
-use Rattle.slots.specs.BelowLaws.{count-more}
-use Rattle.slots.specs.Slots.{mostSlots, slotAt, used, freeSlot, atCount, withSlots}
+use Rattle.slots.specs.Slots.{mostSlots}
 use Rattle.slots.specs.Found.{length-of-map}
-use Rattle.slots.specs.Order.{firstWith, first-next, first-more, first-whole, Changed}
+use Rattle.slots.specs.Order.{first-whole}
 use Rattle.formed.specs.Formed.{recordFormed}
-use Rattle.beats.specs.Beats.{raised, reached, afterBeat, beaten, beat}
-use Rattle.beats.specs.Laws.{Beaten, was-free, is-dropped, is-older, beaten?}
+use Rattle.beats.specs.Beats.{afterBeat, beaten, beat}
+use Rattle.beats.specs.Turns.{Beat, dead-told, slot-dropped, slot-free, slot-older, older-fits, beat-starts, dropped-fits, beat-goes-on}
 
--- ---- one slot
-pub dead-told : (x : Slot) (limit : ℕ) → 0 < limit → used x && leb (limit - 1) (x .beats) ≡ reached limit (raised x)
-dead-told x limit l = go (beaten? limit x)
-  where
-    go : Beaten limit x → used x && leb (limit - 1) (x .beats) ≡ reached limit (raised x)
-    go (was-free z r e) = rw (r, eq-eqb (x .rank) 0 z)
-    go (is-dropped u m r e) = rw (r, ne-eqb (x .rank) 0 (λ z. omega arith), le-leb (limit - 1) (x .beats) (omega arith))
-    go (is-older u m r e) = rw (r, ne-eqb (x .rank) 0 (λ z. omega arith), lt-leb (limit - 1) (x .beats) (omega arith))
-
-module _ (x : Slot) (limit : ℕ) (dead : Bool) (is : dead ≡ reached limit (raised x)) where
-  pub slot-dropped : (y : Slot) → dead ≡ true → y ≡ freeSlot → y ≡ afterBeat limit x
-  unfolding afterBeat
-  slot-dropped y d e = rw (← is, d) e
-
-  pub slot-free : dead ≡ false → x .rank ≡ 0 → x ≡ afterBeat limit x
-  slot-free d z = go (beaten? limit x)
-    where
-      go : Beaten limit x → x ≡ afterBeat limit x
-      go (was-free y r e) = sym e
-      go (is-dropped u m r e) = absurd (omega arith)
-      go (is-older u m r e) = absurd (omega arith)
-
-  pub slot-older : dead ≡ false → (x .rank ≡ 0 → ⊥) → atCount (x .beats + 1) x ≡ afterBeat limit x
-  slot-older d z = go (beaten? limit x)
-    where
-      go : Beaten limit x → atCount (x .beats + 1) x ≡ afterBeat limit x
-      go (was-free y r e) = absurd (z y)
-      go (is-dropped u m r e) = absurd (clash (reached limit (raised x)) r (sym is ∙ d))
-      go (is-older u m r e) = rw add-one (sym e)
-
-  pub older-fits : dead ≡ false → (x .rank ≡ 0 → ⊥) → limit < 256 → Fits w8 (x .beats + 1)
-  older-fits d z h = go (beaten? limit x)
-    where
-      go : Beaten limit x → Fits w8 (x .beats + 1)
-      go (was-free y r e) = absurd (z y)
-      go (is-dropped u m r e) = absurd (clash (reached limit (raised x)) r (sym is ∙ d))
-      go (is-older u m r e) = omega arith
-
--- ---- the record
-module _ (limit : ℕ) (r : Record) where
-  abbrev gone : ℕ → Bool
-  gone i = reached limit (raised (slotAt (r .slots) i))
-
-  -- s is r with a beat on its first i slots, and so many of these are dropped
-  pub record Beat (s : Record) (dropped i : ℕ) : Type 0 where
-    pub changed : Changed (afterBeat limit) mostSlots r s i
-    pub counted : dropped ≡ countBelow i (λ j. reached limit (raised (slotAt (r .slots) j)))
-    pub few : dropped ≤ i
-
-  pub beat-starts : length (r .slots) ≡ mostSlots → Beat r 0 0
-  unfolding firstWith countBelow
-  beat-starts e = record { changed = record { after = e; most = omega arith; within = omega arith; kind = refl; number = refl; slots = refl }; counted = refl; few = omega arith }
-
-  module _ (s : Record) (dropped i : ℕ) (b : Beat s dropped i) where
-    next : slotAt (s .slots) i ≡ slotAt (r .slots) i
-    next = rw (b .changed .slots) (first-next (afterBeat limit) i (r .slots))
-
-    byte : (c : Bool) → boolByte c ≡ cond c 1 0
-    byte true = refl
-    byte false = refl
-
-    small : (c : Bool) → boolByte c ≤ 1
-    small true = omega arith
-    small false = omega arith
-
-    pub dropped-fits : (dead : Bool) → i < mostSlots → Fits w8 (dropped + boolByte dead)
-    dropped-fits dead l = omega (arith, b .few, small dead)
-
-    pub beat-goes-on : (dead : Bool) (y : Slot) → i < mostSlots → dead ≡ reached limit (raised (slotAt (s .slots) i)) → y ≡ afterBeat limit (slotAt (s .slots) i)
-        → Beat (withSlots s (set (s .slots) i y)) (dropped + boolByte dead) (i + 1)
-    beat-goes-on dead y l d e = record {
-      changed = record {
-        after = length-set (s .slots) i y ∙ b .changed .after;
-        most = b .changed .most;
-        within = omega arith;
-        kind = b .changed .kind;
-        number = b .changed .number;
-        slots = rw (e, next, b .changed .slots, add-one) (first-more (afterBeat limit) i (r .slots));
-      };
-      counted = count-more (λ j. reached limit (raised (slotAt (r .slots) j))) i dropped (boolByte dead) (b .counted) (rw (d, next) (byte (reached limit (raised (slotAt (r .slots) i)))));
-      few = omega (arith, b .few, small dead);
-    }
-
-    pub beat-ends : (b : Bool) → b ≡ recordFormed (r .count) r → not b ≡ false → (limit ≡ 0 → ⊥) → mostSlots ≤ i → length (r .slots) ≡ mostSlots → beaten (gives dropped) s ≡ beat (r .count) r limit
-    unfolding beat
-    beat-ends ok t f z l e =
-        let end : i ≡ mostSlots = omega (arith, b .changed .within) in
-        rw (← t, f, ne-eqb limit 0 z, b .changed .kind, b .changed .number, b .changed .slots, b .counted, end, first-whole (afterBeat limit) mostSlots (r .slots) e)
+pub beat-ends : (limit : ℕ) (r s : Record) (dropped i : ℕ) → Beat limit r s dropped i → (b : Bool) → b ≡ recordFormed (r .count) r → not b ≡ false → (limit ≡ 0 → ⊥) → mostSlots ≤ i → length (r .slots) ≡ mostSlots → beaten (gives dropped) s ≡ beat (r .count) r limit
+unfolding beat
+beat-ends limit r s dropped i b ok t f z l e =
+    let end : i ≡ mostSlots = omega (arith, b .changed .within) in
+    rw (← t, f, ne-eqb limit 0 z, b .changed .kind, b .changed .number, b .changed .slots, b .counted, end, first-whole (afterBeat limit) mostSlots (r .slots) e)
 
 module _ (r : Record) (limit : ℕ) (b : Bool) (t : b ≡ recordFormed (r .count) r) where
   pub beat-unformed : not b ≡ true → beaten (refused 1) r ≡ beat (r .count) r limit

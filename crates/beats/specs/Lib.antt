@@ -1,2 +1,3 @@
 pub mod Beats
 pub mod Laws
+pub mod Turns

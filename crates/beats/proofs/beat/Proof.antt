@@ -2,7 +2,8 @@
 -- counted, and the others are as they were; behind the last slot this is the rule. Assumes nothing.
 use Prim.Native.Nat.{_-_}
 use Rattle.slots.specs.Slots.{mostSlots}
-use Rattle.beats.proofs.Steps.{Beat, steps}
+use Rattle.beats.specs.Turns.{Beat}
+use Rattle.beats.proofs.Steps.{steps}
 use Rattle.beats.proofs.beat.Statement.{statement}
 use Rattle.beats.proofs.beat.Tie as tie
 
