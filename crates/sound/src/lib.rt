@@ -1,4 +1,6 @@
 // Which states hold a well-formed record: the tests of `formed`, in their order, on a slot's octets where they are.
+pub mod beat;
+
 use formed::fewest;
 use formed::key_formed;
 use formed::most;
