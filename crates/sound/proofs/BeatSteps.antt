@@ -1,10 +1,9 @@
 -- What the proofs of the beat on a state cite: the laws of a beat's turns, carried over to the record that octets hold.
 use Prim.Native.Nat.{ℕ, _+_, _≤_, _<_}
-use mathlib.Core.Path.{_≡_, refl, sym, ap, _∙_, subst}
+use mathlib.Core.Path.{_≡_, refl, sym, ap, _∙_}
 use mathlib.Core.Bool.{Bool, true, false, not, _&&_}
 use mathlib.Core.List.{List}
 use native.Mathlib.Omega.{arith}
-use lib.ListN.{set}
 use lib.Seq.{set-getD}
 use lib.Dec.{eqb}
 use mir.Syntax.{w8}

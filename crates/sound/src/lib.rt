@@ -27,8 +27,8 @@ ghost use Prim.Native.Nat.{_≤_, _<_};
 ghost use Rattle.arrival.specs.Message.{mostParts};
 ghost use Rattle.slots.specs.Below.{allBelow};
 ghost use Rattle.slots.specs.Slots.{mostSlots, used, sameKey};
-ghost use Rattle.formed.specs.Formed.{zeroPart, allZero, partFormed, heldCount, usedFormed, slotFormed, countAhead, usedCount, ranked, recordFormed};
-ghost use Rattle.formed.specs.Pieces.{slotsHold, pairApart, slotsApart};
+ghost use Rattle.formed.specs.Formed.{zeroPart, allZero, partFormed, heldCount, usedFormed, slotFormed, countAhead, usedCount, isRank, ranked, recordFormed};
+ghost use Rattle.formed.specs.Pieces.{slotsHold, pairApart, apartBefore, slotsApart};
 ghost use Rattle.layout.specs.Layout.{recordIn, known};
 ghost use Rattle.layout.specs.Changes.{slotFrom};
 
@@ -172,22 +172,28 @@ fn pair_apart(state: &[u8; STATE_OCTETS], i: usize, j: usize) -> bool
 }
 
 // ---- the slots
+// Whether slot i can be in one record with each slot before it.
+fn apart_before(state: &[u8; STATE_OCTETS], i: usize) -> bool
+    ensures { λ r. ⌜ r ≡ apartBefore (recordIn (now (state .entry)) .slots) i ⌝ }
+{
+    let mut ok = true;
+    let mut j = 0;
+    while j < i {
+        ok = ok & pair_apart(state, i, j);
+        j = j + 1;
+    }
+    ok
+}
+
 // Whether no two used slots of the first n have one key, and none has a higher count of beats than a less recent one.
 fn slots_apart(state: &[u8; STATE_OCTETS], n: usize) -> bool
-    requires { ⌜ n ≤ mostSlots ⌝ }
     ensures { λ r. ⌜ r ≡ slotsApart n (recordIn (now (state .entry)) .slots) ⌝ }
 {
     let mut ok = true;
     let mut i = 0;
-    let mut j = 0;
     while i < n {
-        if j < i {
-            ok = ok & pair_apart(state, i, j);
-            j = j + 1;
-        } else {
-            i = i + 1;
-            j = 0;
-        }
+        ok = ok & apart_before(state, i);
+        i = i + 1;
     }
     ok
 }
@@ -207,6 +213,19 @@ fn used_count(state: &[u8; STATE_OCTETS], n: usize) -> u8
     m
 }
 
+// Whether one of the first n slots has the rank r.
+fn is_rank(state: &[u8; STATE_OCTETS], n: usize, r: u8) -> bool
+    ensures { λ b. ⌜ b ≡ isRank n (recordIn (now (state .entry)) .slots) r ⌝ }
+{
+    let mut any = false;
+    let mut i = 0;
+    while i < n {
+        any = any | (rank_at(state, i) == r);
+        i = i + 1;
+    }
+    any
+}
+
 // Whether the used slots of the first n are ranked 1, 2, .. without a gap: of each rank up to their number there is a slot.
 fn ranked(state: &[u8; STATE_OCTETS], n: usize) -> bool
     requires { ⌜ n ≤ mostSlots ⌝ }
@@ -214,19 +233,10 @@ fn ranked(state: &[u8; STATE_OCTETS], n: usize) -> bool
 {
     let m = used_count(state, n);
     let mut ok = true;
-    let mut any = false;
     let mut r = 0;
-    let mut i = 0;
     while r < m {
-        if i < n {
-            any = any | (rank_at(state, i) == r + 1);
-            i = i + 1;
-        } else {
-            ok = ok & any;
-            any = false;
-            r = r + 1;
-            i = 0;
-        }
+        ok = ok & is_rank(state, n, r + 1);
+        r = r + 1;
     }
     ok
 }
