@@ -1,0 +1,134 @@
+-- What the proofs over the order of recency in place cite: first all ranks are changed, then slot i is written.
+use Prim.Native.Nat.{ℕ, zero, suc, _+_, _≤_, _<_}
+use mathlib.Core.Path.{_≡_, refl, sym, ap, _∙_, subst}
+use mathlib.Core.Bool.{Bool, true, false, cond, _||_}
+use mathlib.Core.List.{List, [], _∷_}
+use native.Mathlib.Omega.{arith}
+use lib.ListN.{length, set}
+use lib.Dec.{eqb, ltb}
+use borrow.Author.Needs.{needs}
+use borrow.Author.Tests.{ltb-false, lt-ltb, le-ltb}
+use Rattle.types.specs.declared.Key.{Key}
+use Rattle.types.specs.declared.Slot.{Slot}
+use Rattle.types.specs.declared.Record.{Record}
+use Rattle.arrival.specs.Message.{mostParts}
+use Rattle.slots.specs.Slots.{mostSlots, slotAt, freeSlot, opened, withPart, atRank, atFront, withSlots, slotsIn}
+use Rattle.slots.specs.Found.{withPartIn}
+use Rattle.slots.specs.Order.{rankAfter, firstWith, reranked, firstRanked, Changed, change-starts, change-goes-on, replaced}
+use Rattle.layout.specs.Layout.{recordIn, known}
+use Rattle.layout.specs.Changes.{slotFrom, withSlot, Became}
+use Rattle.layout.specs.Laws.{slots-long, became-then}
+
+-- ---- the loop that changes the ranks
+-- if s holds a record, t holds it with its first j slots at their new ranks
+pub record Going (g : ℕ → ℕ) (n : ℕ) (s t : List ℕ) (j : ℕ) : Type 0 where
+  pub still : known s ≡ true → known t ≡ true
+  pub now : known s ≡ true → Changed (reranked g) n (recordIn s) (recordIn t) j
+  pub within : j ≤ n
+
+module _ (g : ℕ → ℕ) (n : ℕ) (s : List ℕ) where
+  pub rerank-starts : n ≤ mostSlots → Going g n s s 0
+  rerank-starts l = record { still = λ k. k; now = λ k. change-starts g n (recordIn s) (slots-long s) l; within = omega arith }
+
+  pub rerank-goes-on : (t u : List ℕ) (j p q : ℕ) → Going g n s t j → j < n → q ≡ slotFrom t j .rank → p ≡ g q
+      → Became t u (withSlot t j (atRank p (slotFrom t j))) → Going g n s u (j + 1)
+  rerank-goes-on t u j p q h l e f b = record {
+    still = λ k. b .still (h .still k);
+    now = λ k.
+        subst (λ (r : Record). Changed (reranked g) n (recordIn s) r (j + 1)) (sym (b .now (h .still k)))
+        (change-goes-on g n (recordIn s) (recordIn t) j (h .now k) p l (f ∙ ap g e));
+    within = omega arith;
+  }
+
+-- the ranks of all slots of the record that s holds, once slot i has come to the front or was freed
+abbrev pub ranksMoved : Bool → List ℕ → ℕ → Record
+ranksMoved front s i = withSlots (recordIn s) (firstRanked (rankAfter front (slotFrom s i .rank)) (slotsIn (recordIn s)) (recordIn s .slots))
+
+pub rerank-ends : (front : Bool) (n r i j : ℕ) (s t : List ℕ) → Going (rankAfter front r) n s t j → n ≡ slotsIn (recordIn s) → r ≡ slotFrom s i .rank → n ≤ j
+    → Became s t (withSlots (recordIn s) (firstRanked (rankAfter front (slotFrom s i .rank)) (slotsIn (recordIn s)) (recordIn s .slots)))
+rerank-ends front n r i j s t h e f l = record { still = h .still; now = λ k. whole k }
+  where
+    end : j ≡ slotsIn (recordIn s)
+    end = omega (arith, h .within)
+
+    whole : known s ≡ true → recordIn t ≡ ranksMoved front s i
+    whole k =
+        let c = h .now k in
+        (λ d. record { kind = c .kind d; count = c .number d; slots = c .slots d })
+        ∙ ap (λ (m : ℕ). withSlots (recordIn s) (firstRanked (rankAfter front r) m (recordIn s .slots))) end
+        ∙ ap (λ (q : ℕ). withSlots (recordIn s) (firstRanked (rankAfter front q) (slotsIn (recordIn s)) (recordIn s .slots))) f
+
+-- ---- then slot i
+first-at : (f : Slot → Slot) (n i : ℕ) (xs : List Slot) → i < n → i < length xs → slotAt (firstWith f n xs) i ≡ f (slotAt xs i)
+unfolding firstWith
+first-at f zero i xs l m = absurd (omega arith)
+first-at f (suc n) i [] l m = absurd (omega arith)
+first-at f (suc n) zero (x ∷ xs) l m = refl
+first-at f (suc n) (suc i) (x ∷ xs) l m = first-at f n i xs (omega arith) (omega arith)
+
+slots-at-most : (r : Record) → slotsIn r ≤ mostSlots
+slots-at-most r = go (ltb mostSlots (r .count)) refl
+  where
+    go : (b : Bool) → ltb mostSlots (r .count) ≡ b → cond b mostSlots (r .count) ≤ mostSlots
+    go true e = omega arith
+    go false e = ltb-false mostSlots (r .count) e
+
+pub none-moved : (front : Bool) (s : List ℕ) (i n : ℕ) (x : Slot) → n ≡ slotsIn (recordIn s) → n ≤ i → Became s s (replaced front (recordIn s) i x)
+none-moved front s i n x e l = record { still = λ k. k; now = λ k. rw (le-ltb i (slotsIn (recordIn s)) (omega arith)) }
+
+module _ (front : Bool) (s t u : List ℕ) (i n : ℕ) (e : n ≡ slotsIn (recordIn s)) (l : i < n) (g : Became s t (ranksMoved front s i)) where
+  -- slot i as it is in between: at another rank
+  between : known s ≡ true → slotFrom t i ≡ reranked (rankAfter front (slotFrom s i .rank)) (slotFrom s i)
+  between k =
+      ap (λ (r : Record). slotAt (r .slots) i) (g .now k)
+      ∙ first-at (reranked (rankAfter front (slotFrom s i .rank))) (slotsIn (recordIn s)) i (recordIn s .slots) (omega arith)
+      (omega (arith, slots-long s, slots-at-most (recordIn s)))
+
+  -- slot i written as f says, whatever its rank was
+  moved-as : (f : Slot → Slot) (x : Slot) → ((q : ℕ) → f (atRank q (slotFrom s i)) ≡ x) → Became t u (withSlot t i (f (slotFrom t i)))
+      → Became s u (replaced front (recordIn s) i x)
+  moved-as f x same h = record {
+    still = λ k. h .still (g .still k);
+    now = λ k.
+        h .now (g .still k) ∙ rw (between k, same (rankAfter front (slotFrom s i .rank) (slotFrom s i .rank)), g .now k, lt-ltb i (slotsIn (recordIn s)) (omega arith));
+  }
+
+module _ (s t : List ℕ) (i n : ℕ) (e : n ≡ slotsIn (recordIn s)) (l : i < n) where
+  pub moved-front : (u : List ℕ) → Became s t (ranksMoved true s i) → Became t u (withSlot t i (atFront (slotFrom t i)))
+      → Became s u (replaced true (recordIn s) i (atFront (slotFrom s i)))
+  moved-front u g h = moved-as true s t u i n e l g atFront (atFront (slotFrom s i)) (λ q. refl) h
+
+  pub moved-kept : (u v : List ℕ) (number m : ℕ) → Became s t (ranksMoved true s i) → Became t u (withSlot t i (withPartIn (slotFrom t i) number m))
+      → Became u v (withSlot u i (atFront (slotFrom u i))) → Became s v (replaced true (recordIn s) i (atFront (withPartIn (slotFrom s i) number m)))
+  moved-kept u v number m g h o =
+      moved-as true s t v i n e l g (λ x. atFront (withPartIn x number m)) (atFront (withPartIn (slotFrom s i) number m)) same
+      (became-then t u i (withPartIn (slotFrom t i) number m) h v atFront o)
+    where
+      same : (q : ℕ) → atFront (withPartIn (atRank q (slotFrom s i)) number m) ≡ atFront (withPartIn (slotFrom s i) number m)
+      same q = go (eqb number 0 || ltb mostParts number)
+        where
+          go : (b : Bool) → atFront (cond b (atRank q (slotFrom s i)) (withPart (atRank q (slotFrom s i)) number m)) ≡ atFront (cond b (slotFrom s i) (withPart (slotFrom s i) number m))
+          go true = refl
+          go false = refl
+
+  pub moved-new : (u v w : List ℕ) (key : Key) (total number m : ℕ) → Became s t (ranksMoved true s i) → Became t u (withSlot t i (opened key total))
+      → Became u v (withSlot u i (withPartIn (slotFrom u i) number m)) → Became v w (withSlot v i (atFront (slotFrom v i)))
+      → Became s w (replaced true (recordIn s) i (atFront (withPartIn (opened key total) number m)))
+  moved-new u v w key total number m g h o p =
+      moved-as true s t w i n e l g (λ x. atFront (withPartIn (opened key total) number m)) (atFront (withPartIn (opened key total) number m)) (λ q. refl)
+      (became-then t v i (withPartIn (opened key total) number m) (became-then t u i (opened key total) h v (λ x. withPartIn x number m) o) w atFront p)
+
+  pub moved-free : (u : List ℕ) → Became s t (ranksMoved false s i) → Became t u (withSlot t i freeSlot) → Became s u (replaced false (recordIn s) i freeSlot)
+  moved-free u g h = moved-as false s t u i n e l g (λ x. freeSlot) freeSlot (λ q. refl) h
+
+pub ruleset steps = (
+  needs,
+  rerank-starts,
+  rerank-goes-on,
+  rerank-ends,
+  none-moved,
+  moved-front,
+  moved-kept,
+  moved-new,
+  moved-free,
+)
