@@ -331,16 +331,14 @@ module _ (s : List ℕ) (i number n : ℕ) where
   pub part-past : mostParts < number → Became s s (withSlot s i (withPartIn (slotFrom s i) number n))
   part-past l = rw (ne-eqb number 0 (λ e. omega arith), lt-ltb mostParts number l) (unchanged s i)
 
-  pub part-set : (t u : List ℕ) → (number ≡ 0 → ⊥) → number ≤ mostParts → Stored s t i (set (own i s) (13 + number) n)
-      → Stored t u i (set (own i t) (29 + number) 1) → Became s u (withSlot s i (withPartIn (slotFrom s i) number n))
+  pub part-set : (t u : List ℕ) → (number ≡ 0 → ⊥) → number ≤ mostParts → Stored s t i (set (own i s) (14 + (number - 1)) n)
+      → Stored t u i (set (own i t) (30 + (number - 1)) 1) → Became s u (withSlot s i (withPartIn (slotFrom s i) number n))
   part-set t u z m g h =
       let j : ℕ = number - 1 in
       let l : j < mostParts = omega arith in
-      let p : 13 + number ≡ 14 + j = omega arith in
-      let q : 29 + number ≡ 30 + j = omega arith in
       let x : List ℕ = own i s in
       let y : List ℕ = set x (14 + j) n in
-      let stored : Stored s u i (set y (30 + j) 1) = rw (← p, ← q) (stored-more s i t u (set x (13 + number) n) (29 + number) 1 g h) in
+      let stored : Stored s u i (set y (30 + j) 1) = stored-more s i t u y (30 + j) 1 g h in
       let said : slotIn (set y (30 + j) 1) ≡ withPart (slotIn x) number n = rw (slot-mark y j l, slot-length x j l n) in
       rw (ne-eqb number 0 z, le-ltb mostParts number m)
       (stored-became s u i (set y (30 + j) 1) stored (withPart (slotFrom s i) number n)

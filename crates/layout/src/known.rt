@@ -1,4 +1,5 @@
 // Which octets are a state, and a fresh one.
+use crate::MARKS;
 use crate::STATE_OCTETS;
 use crate::octet_at;
 use types::Kind;
@@ -26,7 +27,7 @@ fn marks_fit(state: &[u8; STATE_OCTETS], i: usize) -> bool
     let mut bad = 0;
     let mut k = 0;
     while k < PARTS {
-        let wrong = 1 < octet_at(state, i, 30 + k);
+        let wrong = 1 < octet_at(state, i, MARKS + k);
         bad = bad | (wrong as u8);
         k = k + 1;
     }

@@ -13,8 +13,35 @@ ghost use Rattle.layout.specs.Blocks.{slotSize};
 ghost use Rattle.layout.specs.Layout.{own};
 ghost use Rattle.layout.specs.Changes.{Stored};
 
-// The octets of a state.
-pub const STATE_OCTETS: usize = 233;
+// The octets of a state: a head of three, and the slots.
+pub const STATE_OCTETS: usize = HEAD + SLOTS * BLOCK;
+
+pub(crate) const HEAD: usize = 3;
+
+// The octets of a slot, and where its fields are among them.
+pub(crate) const BLOCK: usize = 46;
+
+pub(crate) const RANK: usize = 0;
+
+pub(crate) const BEATS: usize = 1;
+
+pub(crate) const SENDER: usize = 2;
+
+pub(crate) const SENDER_LOW: usize = 4;
+
+pub(crate) const WIDTH: usize = 6;
+
+pub(crate) const REFERENCE: usize = 7;
+
+pub(crate) const SERIAL: usize = 9;
+
+pub(crate) const IDENTIFIER: usize = 11;
+
+pub(crate) const TOTAL: usize = 13;
+
+pub(crate) const LENGTHS: usize = 14;
+
+pub(crate) const MARKS: usize = 30;
 
 // Octet p of slot i, and 0 past the last slot.
 pub(crate) fn octet_at(state: &[u8; STATE_OCTETS], i: usize, p: usize) -> u8
@@ -22,7 +49,7 @@ pub(crate) fn octet_at(state: &[u8; STATE_OCTETS], i: usize, p: usize) -> u8
     ensures { λ r. ⌜ r ≡ getD (own i (now (state .entry))) p 0 ⌝ }
 {
     if i < SLOTS {
-        return state[3 + 46 * i + p];
+        return state[HEAD + BLOCK * i + p];
     }
     0
 }
@@ -33,6 +60,6 @@ pub(crate) fn set_octet(state: &mut [u8; STATE_OCTETS], i: usize, p: usize, v: u
     ensures { λ _. ⌜ Stored (now (state .entry)) (now (state .exit)) i (set (own i (now (state .entry))) p v) ⌝ }
 {
     if i < SLOTS {
-        state[3 + 46 * i + p] = v;
+        state[HEAD + BLOCK * i + p] = v;
     }
 }

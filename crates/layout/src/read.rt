@@ -1,5 +1,18 @@
 // What a state says, read where it is. A slot past the last says what a free one says.
+use crate::BEATS;
+use crate::BLOCK;
+use crate::HEAD;
+use crate::IDENTIFIER;
+use crate::LENGTHS;
+use crate::MARKS;
+use crate::RANK;
+use crate::REFERENCE;
+use crate::SENDER;
+use crate::SENDER_LOW;
+use crate::SERIAL;
 use crate::STATE_OCTETS;
+use crate::TOTAL;
+use crate::WIDTH;
 use crate::octet_at;
 use types::Key;
 use types::Kind;
@@ -50,19 +63,19 @@ pub fn slots_in(state: &[u8; STATE_OCTETS]) -> usize
 pub fn rank_at(state: &[u8; STATE_OCTETS], i: usize) -> u8
     ensures { λ r. ⌜ r ≡ slotFrom (now (state .entry)) i .rank ⌝ }
 {
-    octet_at(state, i, 0)
+    octet_at(state, i, RANK)
 }
 
 pub fn beats_at(state: &[u8; STATE_OCTETS], i: usize) -> u8
     ensures { λ r. ⌜ r ≡ slotFrom (now (state .entry)) i .beats ⌝ }
 {
-    octet_at(state, i, 1)
+    octet_at(state, i, BEATS)
 }
 
 pub fn total_at(state: &[u8; STATE_OCTETS], i: usize) -> u8
     ensures { λ r. ⌜ r ≡ slotFrom (now (state .entry)) i .total ⌝ }
 {
-    octet_at(state, i, 13)
+    octet_at(state, i, TOTAL)
 }
 
 // Two octets of slot i as a number.
@@ -88,13 +101,13 @@ fn wide_number(high: u16, low: u16) -> u32
 pub fn key_at(state: &[u8; STATE_OCTETS], i: usize) -> Key
     ensures { λ r. ⌜ r ≡ slotFrom (now (state .entry)) i .key ⌝ }
 {
-    let high = pair_at(state, i, 2);
-    let low = pair_at(state, i, 4);
+    let high = pair_at(state, i, SENDER);
+    let low = pair_at(state, i, SENDER_LOW);
     let sender = wide_number(high, low);
-    let width = octet_at(state, i, 6);
-    let reference = pair_at(state, i, 7);
-    let serial = pair_at(state, i, 9);
-    let identifier = pair_at(state, i, 11);
+    let width = octet_at(state, i, WIDTH);
+    let reference = pair_at(state, i, REFERENCE);
+    let serial = pair_at(state, i, SERIAL);
+    let identifier = pair_at(state, i, IDENTIFIER);
     Key {
         sender: sender,
         width: width,
@@ -109,7 +122,7 @@ pub fn length_at(state: &[u8; STATE_OCTETS], i: usize, k: usize) -> u8
     ensures { λ r. ⌜ r ≡ getD (slotFrom (now (state .entry)) i .lengths) k 0 ⌝ }
 {
     if k < PARTS {
-        return octet_at(state, i, 14 + k);
+        return octet_at(state, i, LENGTHS + k);
     }
     0
 }
@@ -118,7 +131,7 @@ pub fn mark_at(state: &[u8; STATE_OCTETS], i: usize, k: usize) -> bool
     ensures { λ r. ⌜ r ≡ getD (slotFrom (now (state .entry)) i .held) k false ⌝ }
 {
     if k < PARTS {
-        return octet_at(state, i, 30 + k) != 0;
+        return octet_at(state, i, MARKS + k) != 0;
     }
     false
 }
@@ -135,7 +148,7 @@ pub fn lengths_at<'a>(state: &'a [u8; STATE_OCTETS], i: usize) -> &'a [u8]
     ensures { λ r. ⌜ now r ≡ slotFrom (now (state .entry)) i .lengths ⌝ }
 {
     if i < SLOTS {
-        return part(state, 3 + 46 * i + 14, 16);
+        return part(state, HEAD + BLOCK * i + LENGTHS, PARTS);
     }
     part(state, 0, 0)
 }

@@ -1,5 +1,17 @@
 // The fields of one slot, changed where they are. If there is no slot i, nothing is changed.
+use crate::BEATS;
+use crate::BLOCK;
+use crate::IDENTIFIER;
+use crate::LENGTHS;
+use crate::MARKS;
+use crate::RANK;
+use crate::REFERENCE;
+use crate::SENDER;
+use crate::SENDER_LOW;
+use crate::SERIAL;
 use crate::STATE_OCTETS;
+use crate::TOTAL;
+use crate::WIDTH;
 use crate::set_octet;
 use types::Key;
 use types::PARTS;
@@ -15,19 +27,19 @@ ghost use Rattle.layout.specs.Changes.{slotFrom, withSlot, Stored, Becam
 pub fn set_rank(state: &mut [u8; STATE_OCTETS], i: usize, r: u8)
     ensures { λ _. ⌜ Became (now (state .entry)) (now (state .exit)) (withSlot (now (state .entry)) i (atRank r (slotFrom (now (state .entry)) i))) ⌝ }
 {
-    set_octet(state, i, 0, r);
+    set_octet(state, i, RANK, r);
 }
 
 pub fn set_beats(state: &mut [u8; STATE_OCTETS], i: usize, b: u8)
     ensures { λ _. ⌜ Became (now (state .entry)) (now (state .exit)) (withSlot (now (state .entry)) i (atCount b (slotFrom (now (state .entry)) i))) ⌝ }
 {
-    set_octet(state, i, 1, b);
+    set_octet(state, i, BEATS, b);
 }
 
 fn set_total(state: &mut [u8; STATE_OCTETS], i: usize, n: u8)
     ensures { λ _. ⌜ Became (now (state .entry)) (now (state .exit)) (withSlot (now (state .entry)) i (withTotal n (slotFrom (now (state .entry)) i))) ⌝ }
 {
-    set_octet(state, i, 13, n);
+    set_octet(state, i, TOTAL, n);
 }
 
 // Slot i is at the front: the most recent, and no beat has come since.
@@ -48,8 +60,9 @@ pub fn put_part(state: &mut [u8; STATE_OCTETS], i: usize, number: usize, n: u8)
     if PARTS < number {
         return;
     }
-    set_octet(state, i, 13 + number, n);
-    set_octet(state, i, 29 + number, 1);
+    let k = number - 1;
+    set_octet(state, i, LENGTHS + k, n);
+    set_octet(state, i, MARKS + k, 1);
 }
 
 // ---- a key
@@ -78,8 +91,8 @@ fn low(n: u32) -> u16
 fn put_sender(state: &mut [u8; STATE_OCTETS], i: usize, sender: u32)
     ensures { λ _. ⌜ Stored (now (state .entry)) (now (state .exit)) i (withSender (own i (now (state .entry))) sender) ⌝ }
 {
-    set_pair(state, i, 2, high(sender));
-    set_pair(state, i, 4, low(sender));
+    set_pair(state, i, SENDER, high(sender));
+    set_pair(state, i, SENDER_LOW, low(sender));
 }
 
 fn put_numbers(
@@ -91,16 +104,16 @@ fn put_numbers(
 )
     ensures { λ _. ⌜ Stored (now (state .entry)) (now (state .exit)) i (withNumbers (own i (now (state .entry))) reference serial identifier) ⌝ }
 {
-    set_pair(state, i, 7, reference);
-    set_pair(state, i, 9, serial);
-    set_pair(state, i, 11, identifier);
+    set_pair(state, i, REFERENCE, reference);
+    set_pair(state, i, SERIAL, serial);
+    set_pair(state, i, IDENTIFIER, identifier);
 }
 
 fn put_key(state: &mut [u8; STATE_OCTETS], i: usize, key: Key)
     ensures { λ _. ⌜ Became (now (state .entry)) (now (state .exit)) (withSlot (now (state .entry)) i (withKey key (slotFrom (now (state .entry)) i))) ⌝ }
 {
     put_sender(state, i, key.sender);
-    set_octet(state, i, 6, key.width);
+    set_octet(state, i, WIDTH, key.width);
     put_numbers(state, i, key.reference, key.serial.0, key.identifier.0);
 }
 
@@ -113,7 +126,7 @@ pub fn clear(state: &mut [u8; STATE_OCTETS], i: usize)
         return;
     }
     let mut p = 0;
-    while p < 46 {
+    while p < BLOCK {
         set_octet(state, i, p, 0);
         p = p + 1;
     }

@@ -6,5 +6,5 @@ use Rattle.layout.proofs.write.put_part.Tie as tie
 pub put-part-spec : {M : Type 1} → statement M
 put-part-spec =
     tie.close
-    (tie.spec (λ c. search writeSteps) (λ c. search writeSteps) (λ c. search writeSteps) (λ c κs. search writeSteps)
+    (tie.spec (λ c. search writeSteps) (λ c. search writeSteps) (λ c. search writeSteps) (λ c. search writeSteps) (λ c κs. search writeSteps)
     (λ c. search writeSteps) (λ c κs. search writeSteps) (λ c. search writeSteps))
