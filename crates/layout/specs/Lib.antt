@@ -3,3 +3,4 @@ pub mod Layout
 pub mod Changes
 pub mod Laws
 pub mod OctetLaws
+pub mod Loops

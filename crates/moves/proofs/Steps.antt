@@ -1,6 +1,6 @@
 -- What the proofs over the order of recency in place cite: first all ranks are changed, then slot i is written.
 use Prim.Native.Nat.{ℕ, zero, suc, _+_, _≤_, _<_}
-use mathlib.Core.Path.{_≡_, refl, sym, ap, _∙_, subst}
+use mathlib.Core.Path.{_≡_, refl, ap, _∙_}
 use mathlib.Core.Bool.{Bool, true, false, cond, _||_}
 use mathlib.Core.List.{List, [], _∷_}
 use native.Mathlib.Omega.{arith}
@@ -14,49 +14,29 @@ use Rattle.types.specs.declared.Record.{Record}
 use Rattle.arrival.specs.Message.{mostParts}
 use Rattle.slots.specs.Slots.{mostSlots, slotAt, freeSlot, opened, withPart, atRank, atFront, withSlots, slotsIn}
 use Rattle.slots.specs.Found.{withPartIn}
-use Rattle.slots.specs.Order.{rankAfter, firstWith, reranked, firstRanked, Changed, change-starts, change-goes-on, replaced}
+use Rattle.slots.specs.Order.{rankAfter, firstWith, reranked, firstRanked, replaced}
 use Rattle.layout.specs.Layout.{recordIn, known}
 use Rattle.layout.specs.Changes.{slotFrom, withSlot, Became}
 use Rattle.layout.specs.Laws.{slots-long, became-then}
+use Rattle.layout.specs.Loops.{Going, going-starts, going-on, going-ends}
 
 -- ---- the loop that changes the ranks
--- if s holds a record, t holds it with its first j slots at their new ranks
-pub record Going (g : ℕ → ℕ) (n : ℕ) (s t : List ℕ) (j : ℕ) : Type 0 where
-  pub still : known s ≡ true → known t ≡ true
-  pub now : known s ≡ true → Changed (reranked g) n (recordIn s) (recordIn t) j
-  pub within : j ≤ n
-
 module _ (g : ℕ → ℕ) (n : ℕ) (s : List ℕ) where
-  pub rerank-starts : n ≤ mostSlots → Going g n s s 0
-  rerank-starts l = record { still = λ k. k; now = λ k. change-starts g n (recordIn s) (slots-long s) l; within = omega arith }
+  pub rerank-starts : n ≤ mostSlots → Going (reranked g) n s s 0
+  rerank-starts l = going-starts (reranked g) n s l
 
-  pub rerank-goes-on : (t u : List ℕ) (j p q : ℕ) → Going g n s t j → j < n → q ≡ slotFrom t j .rank → p ≡ g q
-      → Became t u (withSlot t j (atRank p (slotFrom t j))) → Going g n s u (j + 1)
-  rerank-goes-on t u j p q h l e f b = record {
-    still = λ k. b .still (h .still k);
-    now = λ k.
-        subst (λ (r : Record). Changed (reranked g) n (recordIn s) r (j + 1)) (sym (b .now (h .still k)))
-        (change-goes-on g n (recordIn s) (recordIn t) j (h .now k) p l (f ∙ ap g e));
-    within = omega arith;
-  }
+  pub rerank-goes-on : (t u : List ℕ) (j p q : ℕ) → Going (reranked g) n s t j → j < n → q ≡ slotFrom t j .rank → p ≡ g q
+      → Became t u (withSlot t j (atRank p (slotFrom t j))) → Going (reranked g) n s u (j + 1)
+  rerank-goes-on t u j p q h l e f b =
+      going-on (reranked g) n s t j h u (atRank p (slotFrom t j)) l (ap (λ (r : ℕ). atRank r (slotFrom t j)) (f ∙ ap g e)) b
 
 -- the ranks of all slots of the record that s holds, once slot i has come to the front or was freed
 abbrev pub ranksMoved : Bool → List ℕ → ℕ → Record
 ranksMoved front s i = withSlots (recordIn s) (firstRanked (rankAfter front (slotFrom s i .rank)) (slotsIn (recordIn s)) (recordIn s .slots))
 
-pub rerank-ends : (front : Bool) (n r i j : ℕ) (s t : List ℕ) → Going (rankAfter front r) n s t j → n ≡ slotsIn (recordIn s) → r ≡ slotFrom s i .rank → n ≤ j
-    → Became s t (withSlots (recordIn s) (firstRanked (rankAfter front (slotFrom s i .rank)) (slotsIn (recordIn s)) (recordIn s .slots)))
-rerank-ends front n r i j s t h e f l = record { still = h .still; now = λ k. whole k }
-  where
-    end : j ≡ slotsIn (recordIn s)
-    end = omega (arith, h .within)
-
-    whole : known s ≡ true → recordIn t ≡ ranksMoved front s i
-    whole k =
-        let c = h .now k in
-        (λ d. record { kind = c .kind d; count = c .number d; slots = c .slots d })
-        ∙ ap (λ (m : ℕ). withSlots (recordIn s) (firstRanked (rankAfter front r) m (recordIn s .slots))) end
-        ∙ ap (λ (q : ℕ). withSlots (recordIn s) (firstRanked (rankAfter front q) (slotsIn (recordIn s)) (recordIn s .slots))) f
+pub rerank-ends : (front : Bool) (n r i j : ℕ) (s t : List ℕ) → Going (reranked (rankAfter front r)) n s t j → n ≡ slotsIn (recordIn s) → r ≡ slotFrom s i .rank → n ≤ j
+    → Became s t (ranksMoved front s i)
+rerank-ends front n r i j s t h e f l = rw (← e, ← f) (going-ends (reranked (rankAfter front r)) n s t j h l)
 
 -- ---- then slot i
 first-at : (f : Slot → Slot) (n i : ℕ) (xs : List Slot) → i < n → i < length xs → slotAt (firstWith f n xs) i ≡ f (slotAt xs i)
