@@ -1,25 +1,27 @@
--- Every record that a value of the type can be is held by octets: `octetsOf` writes them, they are known, and `recordIn` reads the record back.
+-- Every record that a value of the type can be is held by octets: `octetsOf` writes them, they are known, and `recordIn` reads the record back;
+-- and octets that hold a record are those that `octetsOf` writes for it.
 use Prim.Native.Nat.{ℕ, zero, suc, _+_, _*_, _/_, _%_, _≤_, _<_}
 use mathlib.Core.Path.{_≡_, refl, sym, ap, _∙_}
 use mathlib.Core.Bool.{Bool, true, false, _&&_}
 use mathlib.Core.List.{List, [], _∷_, _++_, map}
 use native.Mathlib.Omega.{arith}
-use lib.ListN.{length, getD, take, drop, length-append, length-map}
-use lib.Seq.{take-at, drop-at, take-all, getD-drop}
+use lib.ListN.{length, getD, take, drop, length-append, length-drop, length-map, take-append-drop}
+use lib.Seq.{take-at, drop-at, take-all, take-add, drop-drop, length-take-le, getD-take, getD-drop}
 use lib.Dec.{eqb, leb}
-use borrow.Author.Tests.{eq-eqb}
+use borrow.Author.Tests.{eq-eqb, eqb-true, leb-true}
 use Rattle.octets.specs.Octets.{Octets, numberOf}
-use Rattle.octets.specs.Tests.{both-hold}
+use Rattle.octets.specs.Tests.{both, both-hold}
 use Rattle.types.specs.declared.Kind.{Kind}
 use Rattle.types.specs.declared.Kind.the-variants.{Command, Response}
 use Rattle.types.specs.declared.Slot.{Slot}
 use Rattle.types.specs.declared.Record.{Record}
 use Rattle.arrival.specs.Message.{mostParts}
 use Rattle.slots.specs.Below.{allBelow}
-use Rattle.slots.specs.BelowLaws.{all-hold}
+use Rattle.slots.specs.BelowLaws.{all-at, all-hold}
 use Rattle.slots.specs.Slots.{mostSlots, slotAt}
 use Rattle.layout.specs.Blocks.{slotSize, blocks, laid, Sized, none, one, laid-blocks, laid-length}
 use Rattle.layout.specs.Layout.{formatNumber, stateSize, headSize, own, isMark, wideNumber, kindIn, kindOctet, markOctet, headOctets, slotOf, slotIn, slotOctets, recordIn, octetsOf, markFits, marksFit, slotMarksFit, headFits, known}
+use Rattle.layout.specs.Laws.{known-head, known-length, own-marks}
 
 -- ---- what a value of the type is: numbers that fit their fields, sixteen lengths and marks, five slots
 pub record TypedSlot (x : Slot) : Type 0 where
@@ -201,3 +203,105 @@ unfolding octetsOf
 octets-octets r w =
     small-octets (octetsOf r)
     (with-one formatNumber (omega arith) (with-one (kindOctet (r .kind)) (kind-small (r .kind)) (with-one (r .count) (w .count) (small-slots (r .slots) (each r w)))))
+
+-- ---- and octets that hold a record are its own: no two states hold the same one
+octets-take : (n : ℕ) (o : List ℕ) → Octets o → Octets (take n o)
+octets-take zero o h i = omega arith
+octets-take (suc n) [] h i = omega arith
+octets-take (suc n) (a ∷ o) h zero = h 0
+octets-take (suc n) (a ∷ o) h (suc i) = octets-take n o (λ j. h (suc j)) i
+
+octets-drop : (n : ℕ) (o : List ℕ) → Octets o → Octets (drop n o)
+octets-drop n o h i = rw (getD-drop n o i 0) (h (n + i))
+
+marks-back : (ms : List ℕ) → ((k : ℕ) → k < length ms → leb (getD ms k 0) 1 ≡ true) → map markOctet (map isMark ms) ≡ ms
+marks-back [] h = refl
+marks-back (m ∷ ms) h = λ j. mark m (leb-true m 1 (h 0 (omega arith))) j ∷ marks-back ms (λ k l. h (suc k) (omega arith)) j
+  where
+    mark : (q : ℕ) → q ≤ 1 → markOctet (isMark q) ≡ q
+    mark zero l = refl
+    mark (suc zero) l = refl
+    mark (suc (suc q)) l = absurd (omega arith)
+
+high-back : (a b : ℕ) → b < 256 → numberOf a b / 256 ≡ a
+high-back a b l = omega arith
+
+low-back : (a b : ℕ) → b < 256 → numberOf a b % 256 ≡ b
+low-back a b l = omega arith
+
+top-back : (a b : ℕ) → b < 65536 → wideNumber a b / 65536 ≡ a
+top-back a b l = omega arith
+
+rest-back : (a b : ℕ) → b < 65536 → wideNumber a b % 65536 ≡ b
+rest-back a b l = omega arith
+
+-- a list of just n
+data Just : ℕ → List ℕ → Type 0 where
+  end : Just 0 []
+  next : {n : ℕ} {x : List ℕ} (a : ℕ) → Just n x → Just (suc n) (a ∷ x)
+
+just : (n : ℕ) (x : List ℕ) → length x ≡ n → Just n x
+just zero [] e = end
+just zero (a ∷ x) e = absurd (omega arith)
+just (suc n) [] e = absurd (omega arith)
+just (suc n) (a ∷ x) e = next a (just n x (omega arith))
+
+-- what is before the lengths
+head-back : (h ns ms : List ℕ) → Just 14 h → Octets h → headOctets (slotOf h ns ms) ≡ h
+unfolding slotOf
+head-back hs ns ms (next a (next b (next c (next d (next e (next f (next g (next h (next i (next j (next k (next l (next m (next n end)))))))))))))) o =
+    let low : numberOf e f < 65536 = omega (arith, o 4, o 5) in
+    rw (top-back (numberOf c d) (numberOf e f) low, rest-back (numberOf c d) (numberOf e f) low, high-back c d (o 3), low-back c d (o 3), high-back e f (o 5), low-back e f (o 5), high-back h i (o 8), low-back h i (o 8), high-back j k (o 10), low-back j k (o 10), high-back l m (o 12), low-back l m (o 12))
+
+slot-back : (x : List ℕ) → length x ≡ slotSize → Octets x → marksFit x ≡ true → slotOctets (slotIn x) ≡ x
+unfolding slotIn slotOf slotOctets marksFit
+slot-back x e o f =
+    let ns : List ℕ = take 16 (drop 14 x) in
+    let ms : List ℕ = take 16 (drop 30 x) in
+    let head : headOctets (slotOf (take 14 x) ns ms) ≡ take 14 x =
+    head-back (take 14 x) ns ms (just 14 (take 14 x) (length-take-le 14 x (omega arith))) (octets-take 14 x o) in
+    let marks : map markOctet (map isMark ms) ≡ ms = marks-back ms (λ k l. low k (omega (arith, take-at-most 16 (drop 30 x)))) in
+    let rest : ns ++ ms ≡ drop 14 x =
+    ap (λ (r : List ℕ). ns ++ take 16 r) (sym (drop-drop 16 14 x)) ∙ sym (take-add 16 16 (drop 14 x)) ∙ take-all 32 (drop 14 x) (simp length-drop (omega arith)) in
+    (λ j. head j ++ (ns ++ marks j)) ∙ ap (λ (r : List ℕ). take 14 x ++ r) rest ∙ take-append-drop 14 x
+  where
+    take-at-most : (n : ℕ) (l : List ℕ) → length (take n l) ≤ n
+    take-at-most zero l = omega arith
+    take-at-most (suc n) [] = omega arith
+    take-at-most (suc n) (a ∷ l) = let h : length (take n l) ≤ n = take-at-most n l in omega arith
+
+    low : (k : ℕ) → k < 16 → leb (getD (take 16 (drop 30 x)) k 0) 1 ≡ true
+    low k l = ap (λ (q : ℕ). leb q 1) (getD-take 16 (drop 30 x) k 0 l ∙ getD-drop 30 x k 0) ∙ all-at mostParts (markFits x) f k l
+
+slots-back : (n : ℕ) (s : List ℕ) → length s ≡ slotSize * n → Octets s → ((i : ℕ) → i < n → marksFit (getD (blocks n s) i []) ≡ true)
+    → laid (map slotOctets (map slotIn (blocks n s))) ≡ s
+unfolding blocks laid
+slots-back zero [] e o f = refl
+slots-back zero (a ∷ s) e o f = absurd (omega arith)
+slots-back (suc n) s e o f =
+    let here : slotOctets (slotIn (take slotSize s)) ≡ take slotSize s =
+    slot-back (take slotSize s) (length-take-le slotSize s (omega arith)) (octets-take slotSize s o) (f 0 (omega arith)) in
+    let there : laid (map slotOctets (map slotIn (blocks n (drop slotSize s)))) ≡ drop slotSize s =
+    slots-back n (drop slotSize s) (simp length-drop (omega arith)) (octets-drop slotSize s o) (λ i l. f (suc i) (omega arith)) in
+    (λ j. here j ++ there j) ∙ take-append-drop slotSize s
+
+front-back : (s : List ℕ) → 3 ≤ length s → getD s 0 0 ∷ getD s 1 0 ∷ getD s 2 0 ∷ drop 3 s ≡ s
+front-back [] l = absurd (omega arith)
+front-back (a ∷ []) l = absurd (omega arith)
+front-back (a ∷ b ∷ []) l = absurd (omega arith)
+front-back (a ∷ b ∷ c ∷ s) l = refl
+
+kind-back : (q : ℕ) → q ≤ 1 → kindOctet (kindIn q) ≡ q
+kind-back zero l = refl
+kind-back (suc zero) l = refl
+kind-back (suc (suc q)) l = absurd (omega arith)
+
+pub state-back : (s : List ℕ) → known s ≡ true → Octets s → octetsOf (recordIn s) ≡ s
+unfolding octetsOf recordIn
+state-back s k o =
+    let size : length s ≡ stateSize = known-length s k in
+    let (h, kind) = both (eqb (length s) stateSize && eqb (getD s 0 0) formatNumber) (leb (getD s 1 0) 1) (known-head s k) in
+    let format : getD s 0 0 ≡ formatNumber = eqb-true (getD s 0 0) formatNumber (both (eqb (length s) stateSize) (eqb (getD s 0 0) formatNumber) h .1) in
+    let slots : laid (map slotOctets (map slotIn (blocks mostSlots (drop headSize s)))) ≡ drop headSize s =
+    slots-back mostSlots (drop headSize s) (simp length-drop (omega arith)) (octets-drop headSize s o) (λ i l. own-marks s k i l) in
+    (λ j. sym format j ∷ kind-back (getD s 1 0) (leb-true (getD s 1 0) 1 kind) j ∷ getD s 2 0 ∷ slots j) ∙ front-back s (omega arith)
