@@ -1,4 +1,4 @@
--- `octet_at` meets its contract: each need follows by a law of `Steps`. Assumes nothing.
+-- `octet_at` meets its contract: octet p of block i of the slots is that octet of the state; past the last slot a block has none. Assumes nothing.
 use Rattle.layout.proofs.Steps.{octetSteps}
 use Rattle.layout.proofs.octet_at.Statement.{statement}
 use Rattle.layout.proofs.octet_at.Tie as tie

@@ -1,4 +1,4 @@
--- `set_octet` meets its contract: each need follows by a law of `Steps`. Assumes nothing.
+-- `set_octet` meets its contract: a store inside block i changes that octet of that block and leaves the head and the other blocks. Assumes nothing.
 use Rattle.layout.proofs.Steps.{octetSteps}
 use Rattle.layout.proofs.set_octet.Statement.{statement}
 use Rattle.layout.proofs.set_octet.Tie as tie

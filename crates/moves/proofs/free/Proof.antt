@@ -1,4 +1,4 @@
--- `free` meets its contract: each need follows by a law of `Steps`. Assumes nothing.
+-- `free` meets its contract: all ranks are changed, then slot i is cleared. Assumes nothing.
 use Rattle.moves.proofs.Steps.{steps}
 use Rattle.moves.proofs.free.Statement.{statement}
 use Rattle.moves.proofs.free.Tie as tie

@@ -1,4 +1,4 @@
--- `keep` meets its contract: each need follows by a law of `Steps`. Assumes nothing.
+-- `keep` meets its contract: all ranks are changed, then slot i gets the part and is put at the front. Assumes nothing.
 use Rattle.moves.proofs.Steps.{steps}
 use Rattle.moves.proofs.keep.Statement.{statement}
 use Rattle.moves.proofs.keep.Tie as tie

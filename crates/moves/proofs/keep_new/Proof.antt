@@ -1,4 +1,4 @@
--- `keep_new` meets its contract: each need follows by a law of `Steps`. Assumes nothing.
+-- `keep_new` meets its contract: all ranks are changed, then slot i is opened, gets the part and is put at the front. Assumes nothing.
 use Rattle.moves.proofs.Steps.{steps}
 use Rattle.moves.proofs.keep_new.Statement.{statement}
 use Rattle.moves.proofs.keep_new.Tie as tie

@@ -1,4 +1,4 @@
--- `to_front` meets its contract: each need follows by a law of `Steps`. Assumes nothing.
+-- `to_front` meets its contract: all ranks are changed, then slot i is put at the front, whatever rank it was given. Assumes nothing.
 use Rattle.moves.proofs.Steps.{steps}
 use Rattle.moves.proofs.to_front.Statement.{statement}
 use Rattle.moves.proofs.to_front.Tie as tie

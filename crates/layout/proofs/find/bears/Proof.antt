@@ -1,4 +1,4 @@
--- `bears` meets its contract: each need follows by a law of `ReadSteps`. Assumes nothing.
+-- `bears` meets its contract: rank and key are those of the slot. Assumes nothing.
 use Rattle.layout.proofs.ReadSteps.{findSteps}
 use Rattle.layout.proofs.find.bears.Statement.{statement}
 use Rattle.layout.proofs.find.bears.Tie as tie

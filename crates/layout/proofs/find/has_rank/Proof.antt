@@ -1,4 +1,4 @@
--- `has_rank` meets its contract: each need follows by a law of `ReadSteps`. Assumes nothing.
+-- `has_rank` meets its contract: the rank is that of the slot. Assumes nothing.
 use Rattle.layout.proofs.ReadSteps.{findSteps}
 use Rattle.layout.proofs.find.has_rank.Statement.{statement}
 use Rattle.layout.proofs.find.has_rank.Tie as tie

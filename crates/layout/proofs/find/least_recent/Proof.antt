@@ -1,4 +1,4 @@
--- `least_recent` meets its contract: each need follows by a law of `ReadSteps`. Assumes nothing.
+-- `least_recent` meets its contract: the search for the last rank says which slot it is, or that there is none. Assumes nothing.
 use Rattle.layout.proofs.ReadSteps.{findSteps}
 use Rattle.layout.proofs.find.least_recent.Statement.{statement}
 use Rattle.layout.proofs.find.least_recent.Tie as tie

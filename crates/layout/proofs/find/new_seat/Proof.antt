@@ -1,4 +1,4 @@
--- `new_seat` meets its contract: each need follows by a law of `ReadSteps`. Assumes nothing.
+-- `new_seat` meets its contract: a free slot was found, or none is free and the least recent series gives its own. Assumes nothing.
 use Rattle.layout.proofs.ReadSteps.{findSteps}
 use Rattle.layout.proofs.find.new_seat.Statement.{statement}
 use Rattle.layout.proofs.find.new_seat.Tie as tie

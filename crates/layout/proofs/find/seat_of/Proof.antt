@@ -1,4 +1,4 @@
--- `seat_of` meets its contract: each need follows by a law of `ReadSteps`. Assumes nothing.
+-- `seat_of` meets its contract: the key was found, or a new series takes a slot. Assumes nothing.
 use Rattle.layout.proofs.ReadSteps.{findSteps}
 use Rattle.layout.proofs.find.seat_of.Statement.{statement}
 use Rattle.layout.proofs.find.seat_of.Tie as tie

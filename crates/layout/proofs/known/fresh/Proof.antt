@@ -1,4 +1,4 @@
--- `fresh` meets its contract: each need follows by a law of `KnownSteps`. Assumes nothing.
+-- `fresh` meets its contract: 1, then 25, then the fresh state. Assumes nothing.
 use Rattle.layout.proofs.KnownSteps.{knownSteps}
 use Rattle.layout.proofs.known.fresh.Statement.{statement}
 use Rattle.layout.proofs.known.fresh.Tie as tie

@@ -1,4 +1,4 @@
--- `is_known` meets its contract: each need follows by a law of `KnownSteps`. Assumes nothing.
+-- `is_known` meets its contract: length, format, kind and marks, as the rule tests them. Assumes nothing.
 use Rattle.layout.proofs.KnownSteps.{knownSteps}
 use Rattle.layout.proofs.known.is_known.Statement.{statement}
 use Rattle.layout.proofs.known.is_known.Tie as tie

@@ -1,4 +1,4 @@
--- `write_fresh` meets its contract: each need follows by a law of `KnownSteps`. Assumes nothing.
+-- `write_fresh` meets its contract: a fresh record is written as zeros behind format, kind and number of slots. Assumes nothing.
 use Rattle.layout.proofs.KnownSteps.{knownSteps}
 use Rattle.layout.proofs.known.write_fresh.Statement.{statement}
 use Rattle.layout.proofs.known.write_fresh.Tie as tie

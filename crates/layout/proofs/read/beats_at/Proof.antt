@@ -1,4 +1,4 @@
--- `beats_at` meets its contract: each need follows by a law of `ReadSteps`. Assumes nothing.
+-- `beats_at` meets its contract: octet 1 of a slot is its count of beats. Assumes nothing.
 use Rattle.layout.proofs.ReadSteps.{readSteps}
 use Rattle.layout.proofs.read.beats_at.Statement.{statement}
 use Rattle.layout.proofs.read.beats_at.Tie as tie

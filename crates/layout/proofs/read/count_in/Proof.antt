@@ -1,4 +1,4 @@
--- `count_in` meets its contract: each need follows by a law of `ReadSteps`. Assumes nothing.
+-- `count_in` meets its contract: octet 2 is the number of slots. Assumes nothing.
 use Rattle.layout.proofs.ReadSteps.{readSteps}
 use Rattle.layout.proofs.read.count_in.Statement.{statement}
 use Rattle.layout.proofs.read.count_in.Tie as tie

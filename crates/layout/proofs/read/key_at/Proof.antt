@@ -1,4 +1,4 @@
--- `key_at` meets its contract: each need follows by a law of `ReadSteps`. Assumes nothing.
+-- `key_at` meets its contract: octets 2 to 12 of a slot, read in order, are its key. Assumes nothing.
 use Rattle.layout.proofs.ReadSteps.{readSteps}
 use Rattle.layout.proofs.read.key_at.Statement.{statement}
 use Rattle.layout.proofs.read.key_at.Tie as tie

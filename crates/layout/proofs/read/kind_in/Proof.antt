@@ -1,4 +1,4 @@
--- `kind_in` meets its contract: each need follows by a law of `ReadSteps`. Assumes nothing.
+-- `kind_in` meets its contract: octet 1 is 0 or it is not. Assumes nothing.
 use Rattle.layout.proofs.ReadSteps.{readSteps}
 use Rattle.layout.proofs.read.kind_in.Statement.{statement}
 use Rattle.layout.proofs.read.kind_in.Tie as tie

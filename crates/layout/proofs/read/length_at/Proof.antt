@@ -1,4 +1,4 @@
--- `length_at` meets its contract: each need follows by a law of `ReadSteps`. Assumes nothing.
+-- `length_at` meets its contract: the octet at k behind the head is the length at k, and there are sixteen. Assumes nothing.
 use Rattle.layout.proofs.ReadSteps.{readSteps}
 use Rattle.layout.proofs.read.length_at.Statement.{statement}
 use Rattle.layout.proofs.read.length_at.Tie as tie

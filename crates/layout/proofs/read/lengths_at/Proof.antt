@@ -1,4 +1,4 @@
--- `lengths_at` meets its contract: each need follows by a law of `ReadSteps`. Assumes nothing.
+-- `lengths_at` meets its contract: the lengths are sixteen octets of the state in a row; past the last slot there are none. Assumes nothing.
 use Rattle.layout.proofs.ReadSteps.{readSteps}
 use Rattle.layout.proofs.read.lengths_at.Statement.{statement}
 use Rattle.layout.proofs.read.lengths_at.Tie as tie

@@ -1,4 +1,4 @@
--- `mark_at` meets its contract: each need follows by a law of `ReadSteps`. Assumes nothing.
+-- `mark_at` meets its contract: the octet at k behind the lengths is the mark at k, and there are sixteen. Assumes nothing.
 use Rattle.layout.proofs.ReadSteps.{readSteps}
 use Rattle.layout.proofs.read.mark_at.Statement.{statement}
 use Rattle.layout.proofs.read.mark_at.Tie as tie

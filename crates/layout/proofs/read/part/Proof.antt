@@ -1,4 +1,4 @@
--- `part` meets its contract: each need follows by a law of `ReadSteps`. Assumes nothing.
+-- `part` meets its contract: the first n of what is left from a place on. Assumes nothing.
 use Rattle.layout.proofs.ReadSteps.{readSteps}
 use Rattle.layout.proofs.read.part.Statement.{statement}
 use Rattle.layout.proofs.read.part.Tie as tie

@@ -1,4 +1,4 @@
--- `rank_at` meets its contract: each need follows by a law of `ReadSteps`. Assumes nothing.
+-- `rank_at` meets its contract: octet 0 of a slot is its rank. Assumes nothing.
 use Rattle.layout.proofs.ReadSteps.{readSteps}
 use Rattle.layout.proofs.read.rank_at.Statement.{statement}
 use Rattle.layout.proofs.read.rank_at.Tie as tie

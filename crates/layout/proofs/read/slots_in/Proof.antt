@@ -1,4 +1,4 @@
--- `slots_in` meets its contract: each need follows by a law of `ReadSteps`. Assumes nothing.
+-- `slots_in` meets its contract: a number above five says five. Assumes nothing.
 use Rattle.layout.proofs.ReadSteps.{readSteps}
 use Rattle.layout.proofs.read.slots_in.Statement.{statement}
 use Rattle.layout.proofs.read.slots_in.Tie as tie

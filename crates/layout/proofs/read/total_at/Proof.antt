@@ -1,4 +1,4 @@
--- `total_at` meets its contract: each need follows by a law of `ReadSteps`. Assumes nothing.
+-- `total_at` meets its contract: octet 13 of a slot is its total. Assumes nothing.
 use Rattle.layout.proofs.ReadSteps.{readSteps}
 use Rattle.layout.proofs.read.total_at.Statement.{statement}
 use Rattle.layout.proofs.read.total_at.Tie as tie

@@ -1,4 +1,4 @@
--- `put_key` meets its contract: each need follows by a law of `WriteSteps`. Assumes nothing.
+-- `put_key` meets its contract: the octets stored, read as a key, are that key again. Assumes nothing.
 use Rattle.layout.proofs.WriteSteps.{writeSteps}
 use Rattle.layout.proofs.write.put_key.Statement.{statement}
 use Rattle.layout.proofs.write.put_key.Tie as tie

@@ -1,4 +1,4 @@
--- `put_numbers` meets its contract: each need follows by a law of `WriteSteps`. Assumes nothing.
+-- `put_numbers` meets its contract: three numbers of two octets, each behind the one before. Assumes nothing.
 use Rattle.layout.proofs.WriteSteps.{writeSteps}
 use Rattle.layout.proofs.write.put_numbers.Statement.{statement}
 use Rattle.layout.proofs.write.put_numbers.Tie as tie

@@ -1,4 +1,4 @@
--- `put_part` meets its contract: each need follows by a law of `WriteSteps`. Assumes nothing.
+-- `put_part` meets its contract: no part has that number, or its length and then its mark are stored. Assumes nothing.
 use Rattle.layout.proofs.WriteSteps.{writeSteps}
 use Rattle.layout.proofs.write.put_part.Statement.{statement}
 use Rattle.layout.proofs.write.put_part.Tie as tie

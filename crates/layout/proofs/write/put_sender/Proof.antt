@@ -1,4 +1,4 @@
--- `put_sender` meets its contract: each need follows by a law of `WriteSteps`. Assumes nothing.
+-- `put_sender` meets its contract: the high half of the sender, then the low one. Assumes nothing.
 use Rattle.layout.proofs.WriteSteps.{writeSteps}
 use Rattle.layout.proofs.write.put_sender.Statement.{statement}
 use Rattle.layout.proofs.write.put_sender.Tie as tie

@@ -1,4 +1,4 @@
--- `set_beats` meets its contract: each need follows by a law of `WriteSteps`. Assumes nothing.
+-- `set_beats` meets its contract: octet 1 of a slot says its count of beats and nothing else. Assumes nothing.
 use Rattle.layout.proofs.WriteSteps.{writeSteps}
 use Rattle.layout.proofs.write.set_beats.Statement.{statement}
 use Rattle.layout.proofs.write.set_beats.Tie as tie

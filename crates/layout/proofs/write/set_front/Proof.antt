@@ -1,4 +1,4 @@
--- `set_front` meets its contract: each need follows by a law of `WriteSteps`. Assumes nothing.
+-- `set_front` meets its contract: two changes of one slot, its rank and then its count, are one. Assumes nothing.
 use Rattle.layout.proofs.WriteSteps.{writeSteps}
 use Rattle.layout.proofs.write.set_front.Statement.{statement}
 use Rattle.layout.proofs.write.set_front.Tie as tie

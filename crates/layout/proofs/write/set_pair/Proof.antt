@@ -1,4 +1,4 @@
--- `set_pair` meets its contract: each need follows by a law of `WriteSteps`. Assumes nothing.
+-- `set_pair` meets its contract: the high octet of the number, then the low one. Assumes nothing.
 use Rattle.layout.proofs.WriteSteps.{writeSteps}
 use Rattle.layout.proofs.write.set_pair.Statement.{statement}
 use Rattle.layout.proofs.write.set_pair.Tie as tie

@@ -1,4 +1,4 @@
--- `set_rank` meets its contract: each need follows by a law of `WriteSteps`. Assumes nothing.
+-- `set_rank` meets its contract: octet 0 of a slot says its rank and nothing else. Assumes nothing.
 use Rattle.layout.proofs.WriteSteps.{writeSteps}
 use Rattle.layout.proofs.write.set_rank.Statement.{statement}
 use Rattle.layout.proofs.write.set_rank.Tie as tie

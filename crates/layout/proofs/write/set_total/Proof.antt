@@ -1,4 +1,4 @@
--- `set_total` meets its contract: each need follows by a law of `WriteSteps`. Assumes nothing.
+-- `set_total` meets its contract: octet 13 of a slot says its total and nothing else. Assumes nothing.
 use Rattle.layout.proofs.WriteSteps.{writeSteps}
 use Rattle.layout.proofs.write.set_total.Statement.{statement}
 use Rattle.layout.proofs.write.set_total.Tie as tie
