@@ -1,5 +1,5 @@
 -- What the proofs of testing a state and of making one cite.
-use Prim.Native.Nat.{ℕ, _+_, _≤_, _<_}
+use Prim.Native.Nat.{ℕ, _+_, _≤_}
 use mathlib.Core.Path.{_≡_, refl, sym, ap, _∙_}
 use mathlib.Core.Bool.{Bool, true, false, not, _&&_}
 use mathlib.Core.List.{List}
@@ -16,7 +16,7 @@ use Rattle.slots.specs.Below.{allBelow, fault}
 use Rattle.slots.specs.BelowLaws.{fault-from, fault-more, fault-through, all-from, all-more, all-through}
 use Rattle.slots.specs.Slots.{mostSlots, freshRecord}
 use Rattle.layout.specs.Blocks.{laid}
-use Rattle.layout.specs.Layout.{stateSize, formatNumber, own, markFits, marksFit, slotMarksFit, known, kindOctet, slotOctets, octetsOf, left, makingState}
+use Rattle.layout.specs.Layout.{stateSize, formatNumber, markFits, marksFit, slotMarksFit, known, kindOctet, slotOctets, octetsOf, left, makingState}
 use Rattle.layout.proofs.WriteSteps.{firstZero, zero-more, zero-all}
 
 -- ---- a test

@@ -1,9 +1,8 @@
 -- What the proofs of reading and searching a state cite.
 use Prim.Native.Nat.{ℕ, _≤_, _<_}
-use mathlib.Core.Path.{_≡_, refl, sym, ap, _∙_}
+use mathlib.Core.Path.{_≡_, refl}
 use mathlib.Core.Bool.{Bool, not, _&&_}
 use mathlib.Core.List.{List}
-use native.Mathlib.Omega.{arith}
 use lib.ListN.{getD, take, drop}
 use lib.Dec.{eqb}
 use borrow.Author.Needs.{needs}

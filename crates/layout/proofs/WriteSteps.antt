@@ -1,13 +1,13 @@
 -- What the proofs of changing a slot cite.
-use Prim.Native.Nat.{ℕ, zero, suc, _+_, _≤_, _<_}
-use mathlib.Core.Path.{_≡_, refl, sym, ap, _∙_}
+use Prim.Native.Nat.{ℕ, zero, suc, _+_, _≤_}
+use mathlib.Core.Path.{_≡_, refl, ap, _∙_}
 use mathlib.Core.List.{List, [], _∷_}
 use native.Mathlib.Omega.{arith}
 use native.Mathlib.Numerals.{add-one}
 use lib.ListN.{replicate, length, set}
 use borrow.Author.Needs.{needs}
 use Rattle.slots.specs.Below.{allBelow}
-use Rattle.slots.specs.Slots.{mostSlots, freeSlot}
+use Rattle.slots.specs.Slots.{freeSlot}
 use Rattle.layout.specs.Blocks.{slotSize}
 use Rattle.layout.specs.Layout.{own, slotOf, slotIn, marksFit}
 use Rattle.layout.specs.Changes.{withSlot, Stored, Became}

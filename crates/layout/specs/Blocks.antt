@@ -1,7 +1,7 @@
 -- Octets in blocks of one size, one behind the other: each slot of a state is such a block. What reading an octet of a block comes to, and what
 -- storing one does to the blocks, whatever they hold.
 use Prim.Native.Nat.{ℕ, zero, suc, _+_, _*_, _≤_, _<_}
-use mathlib.Core.Path.{_≡_, refl, sym, ap, _∙_}
+use mathlib.Core.Path.{_≡_, refl, ap, _∙_}
 use mathlib.Core.List.{List, [], _∷_, _++_}
 use native.Mathlib.Omega.{arith}
 use native.Mathlib.Nat.{zero-add}

@@ -13,11 +13,10 @@ use Rattle.octets.specs.Octets.{numberOf}
 use Rattle.octets.specs.Tests.{both, both-hold, Same, same, other, same?}
 use Rattle.types.specs.declared.Key.{Key}
 use Rattle.types.specs.declared.Slot.{Slot}
-use Rattle.types.specs.declared.Record.{Record}
 use Rattle.arrival.specs.Message.{mostParts}
 use Rattle.slots.specs.Below.{allBelow}
 use Rattle.slots.specs.BelowLaws.{all-at, all-hold, all-same}
-use Rattle.slots.specs.Slots.{mostSlots, slotAt, opened, freeSlot, withPart, atRank, atCount, atFront, withSlots}
+use Rattle.slots.specs.Slots.{mostSlots, opened, freeSlot, withPart, atRank, atCount, atFront, withSlots}
 use Rattle.slots.specs.Found.{withPartIn}
 use Rattle.slots.specs.FrontLaws.{past}
 use Rattle.layout.specs.Blocks.{slotSize, blocks, blocks-length, block-size, block-octet, block-part, block-stored}
@@ -193,7 +192,7 @@ long zero x l = any
 long (suc n) [] l = absurd (omega arith)
 long (suc n) (a ∷ x) l = more (long n x (omega arith))
 
-take-most : {A : Type 0} (n : ℕ) (l : List A) → length (take n l) ≤ n
+pub take-most : {A : Type 0} (n : ℕ) (l : List A) → length (take n l) ≤ n
 take-most zero l = omega arith
 take-most (suc n) [] = omega arith
 take-most (suc n) (a ∷ l) = let h : length (take n l) ≤ n = take-most n l in omega arith
@@ -354,8 +353,12 @@ slot-key : (x : List ℕ) (a b c d e f g h i j k : ℕ) → Long 13 x
 unfolding slotIn slotOf
 slot-key x a b c d e f g h i j k (more (more (more (more (more (more (more (more (more (more (more (more (more any))))))))))))) = refl
 
-pair-number : (n : ℕ) → numberOf (n / 256) (n % 256) ≡ n
+-- a number of two octets, and one of four
+pub pair-number : (n : ℕ) → numberOf (n / 256) (n % 256) ≡ n
 pair-number n = omega arith
+
+pub wide-pairs : (n : ℕ) → wideNumber (numberOf (n / 65536 / 256) (n / 65536 % 256)) (numberOf (n % 65536 / 256) (n % 65536 % 256)) ≡ n
+wide-pairs n = omega arith
 
 module _ (x : List ℕ) (key : Key) where
   keyed : List ℕ
@@ -375,11 +378,8 @@ module _ (x : List ℕ) (key : Key) where
   keyed-slot : length x ≡ slotSize → slotIn keyed ≡ withKey key (slotIn x)
   unfolding keyed
   keyed-slot l =
-      let h : ℕ = key .sender / 65536 in
-      let o : ℕ = key .sender % 65536 in
-      let sender : wideNumber (numberOf (h / 256) (h % 256)) (numberOf (o / 256) (o % 256)) ≡ key .sender = omega arith in
       slot-key x _ _ _ _ _ _ _ _ _ _ _ (long 13 x (omega arith))
-      ∙ (λ j. withKey (record { sender = sender j; width = key .width; reference = pair-number (key .reference) j; serial = record { 0 = pair-number (key .serial .0) j }; identifier = record { 0 = pair-number (key .identifier .0) j } }) (slotIn x))
+      ∙ (λ j. withKey (record { sender = wide-pairs (key .sender) j; width = key .width; reference = pair-number (key .reference) j; serial = record { 0 = pair-number (key .serial .0) j }; identifier = record { 0 = pair-number (key .identifier .0) j } }) (slotIn x))
 
 pub key-set : (s t u v : List ℕ) (i : ℕ) (key : Key) → Stored s t i (withSender (own i s) (key .sender)) → Stored t u i (set (own i t) 6 (key .width))
     → Stored u v i (withNumbers (own i u) (key .reference) (key .serial .0) (key .identifier .0)) → Became s v (withSlot s i (withKey key (slotFrom s i)))

@@ -1,13 +1,13 @@
 -- A loop that changes one slot of a state after the other, each as f says. Ageing, closing the ranks and a beat are such loops.
 use Prim.Native.Nat.{ℕ, _+_, _≤_, _<_}
-use mathlib.Core.Path.{_≡_, refl, sym, ap, _∙_}
+use mathlib.Core.Path.{_≡_, refl, ap, _∙_}
 use mathlib.Core.Bool.{true}
 use mathlib.Core.List.{List}
 use native.Mathlib.Omega.{arith}
 use native.Mathlib.Numerals.{add-one}
 use Rattle.types.specs.declared.Slot.{Slot}
 use Rattle.types.specs.declared.Record.{Record}
-use Rattle.slots.specs.Slots.{mostSlots, slotAt, withSlots}
+use Rattle.slots.specs.Slots.{mostSlots, withSlots}
 use Rattle.slots.specs.Order.{firstWith, first-next, first-more, Changed}
 use Rattle.layout.specs.Layout.{recordIn, known}
 use Rattle.layout.specs.Changes.{slotFrom, withSlot, Became}

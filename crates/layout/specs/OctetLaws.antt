@@ -20,8 +20,8 @@ use Rattle.slots.specs.Below.{allBelow}
 use Rattle.slots.specs.BelowLaws.{all-at, all-hold}
 use Rattle.slots.specs.Slots.{mostSlots, slotAt}
 use Rattle.layout.specs.Blocks.{slotSize, blocks, laid, Sized, none, one, laid-blocks, laid-length}
-use Rattle.layout.specs.Layout.{formatNumber, stateSize, headSize, own, isMark, wideNumber, kindIn, kindOctet, markOctet, headOctets, slotOf, slotIn, slotOctets, recordIn, octetsOf, markFits, marksFit, slotMarksFit, headFits, known}
-use Rattle.layout.specs.Laws.{known-head, known-length, own-marks}
+use Rattle.layout.specs.Layout.{formatNumber, stateSize, headSize, isMark, wideNumber, kindIn, kindOctet, markOctet, headOctets, slotOf, slotIn, slotOctets, recordIn, octetsOf, markFits, marksFit, slotMarksFit, headFits, known}
+use Rattle.layout.specs.Laws.{known-head, known-length, own-marks, take-most, pair-number, wide-pairs}
 
 -- ---- what a value of the type is: numbers that fit their fields, sixteen lengths and marks, five slots
 pub record TypedSlot (x : Slot) : Type 0 where
@@ -54,12 +54,6 @@ mark-low (true ∷ bs) zero = refl
 mark-low (false ∷ bs) zero = refl
 mark-low (b ∷ bs) (suc k) = mark-low bs k
 
-number-read : (n : ℕ) → numberOf (n / 256) (n % 256) ≡ n
-number-read n = omega arith
-
-sender-read : (n : ℕ) → wideNumber (numberOf (n / 65536 / 256) (n / 65536 % 256)) (numberOf (n % 65536 / 256) (n % 65536 % 256)) ≡ n
-sender-read n = omega arith
-
 module _ (x : Slot) (sixteen : length (x .lengths) ≡ 16) (marks : length (x .held) ≡ 16) where
   held-size : length (map markOctet (x .held)) ≡ 16
   held-size = length-map (x .held) markOctet ∙ marks
@@ -85,7 +79,7 @@ module _ (x : Slot) (sixteen : length (x .lengths) ≡ 16) (marks : length (x .h
       λ j. record {
         rank = x .rank;
         beats = x .beats;
-        key = record { sender = sender-read (x .key .sender) j; width = x .key .width; reference = number-read (x .key .reference) j; serial = record { 0 = number-read (x .key .serial .0) j }; identifier = record { 0 = number-read (x .key .identifier .0) j } };
+        key = record { sender = wide-pairs (x .key .sender) j; width = x .key .width; reference = pair-number (x .key .reference) j; serial = record { 0 = pair-number (x .key .serial .0) j }; identifier = record { 0 = pair-number (x .key .identifier .0) j } };
         total = x .total;
         lengths = lengths j;
         held = held j;
@@ -260,16 +254,11 @@ slot-back x e o f =
     let ms : List ℕ = take 16 (drop 30 x) in
     let head : headOctets (slotOf (take 14 x) ns ms) ≡ take 14 x =
     head-back (take 14 x) ns ms (just 14 (take 14 x) (length-take-le 14 x (omega arith))) (octets-take 14 x o) in
-    let marks : map markOctet (map isMark ms) ≡ ms = marks-back ms (λ k l. low k (omega (arith, take-at-most 16 (drop 30 x)))) in
+    let marks : map markOctet (map isMark ms) ≡ ms = marks-back ms (λ k l. low k (omega (arith, take-most 16 (drop 30 x)))) in
     let rest : ns ++ ms ≡ drop 14 x =
     ap (λ (r : List ℕ). ns ++ take 16 r) (sym (drop-drop 16 14 x)) ∙ sym (take-add 16 16 (drop 14 x)) ∙ take-all 32 (drop 14 x) (simp length-drop (omega arith)) in
     (λ j. head j ++ (ns ++ marks j)) ∙ ap (λ (r : List ℕ). take 14 x ++ r) rest ∙ take-append-drop 14 x
   where
-    take-at-most : (n : ℕ) (l : List ℕ) → length (take n l) ≤ n
-    take-at-most zero l = omega arith
-    take-at-most (suc n) [] = omega arith
-    take-at-most (suc n) (a ∷ l) = let h : length (take n l) ≤ n = take-at-most n l in omega arith
-
     low : (k : ℕ) → k < 16 → leb (getD (take 16 (drop 30 x)) k 0) 1 ≡ true
     low k l = ap (λ (q : ℕ). leb q 1) (getD-take 16 (drop 30 x) k 0 l ∙ getD-drop 30 x k 0) ∙ all-at mostParts (markFits x) f k l
 
