@@ -1,5 +1,5 @@
 -- What the proofs of reading and searching a state cite.
-use Prim.Native.Nat.{ℕ, _≤_, _<_}
+use Prim.Native.Nat.{ℕ, _+_, _≤_, _<_}
 use mathlib.Core.Path.{_≡_, refl}
 use mathlib.Core.Bool.{Bool, not, _&&_}
 use mathlib.Core.List.{List}
@@ -11,9 +11,10 @@ use Rattle.types.specs.declared.Kind.the-variants.{Command, Response}
 use Rattle.types.specs.declared.Key.{Key}
 use Rattle.types.specs.declared.Slot.{Slot}
 use Rattle.slots.specs.Slots.{mostSlots, sameKey, bears, isLeastRecent, slotsIn}
+use Rattle.slots.specs.BelowLaws.{fault-from, fault-more, fault-through}
 use Rattle.slots.specs.SearchLaws.{searchLaws}
-use Rattle.layout.specs.Layout.{recordIn}
-use Rattle.layout.specs.Laws.{slots-long, rank-read, beats-read, total-read, key-read, length-read, length-none, mark-read, mark-none, lengths-read, lengths-none}
+use Rattle.layout.specs.Layout.{recordIn, blankAt}
+use Rattle.layout.specs.Laws.{slots-long, rank-read, beats-read, total-read, key-read, length-read, length-none, mark-read, mark-none, mark-number, mark-number-none, lengths-read, lengths-none}
 
 -- ---- the record
 module _ (s : List ℕ) where
@@ -36,6 +37,10 @@ module _ (s : List ℕ) where
     pub slots-own : n ≤ mostSlots → n ≡ slotsIn (recordIn s)
     slots-own l = rw (← e, ← f, le-ltb mostSlots n l)
 
+-- ---- a blank slot
+pub blank-wrong : (x : List ℕ) (p q : ℕ) → q ≡ getD x (p + 1) 0 → not (eqb q 0) ≡ not (blankAt x p)
+blank-wrong x p q e = rw e
+
 -- ---- a part of a part
 pub part-told : (s u r : List ℕ) (a n : ℕ) → u ≡ drop a s → r ≡ take n u → r ≡ take n (drop a s)
 part-told s u r a n e f = rw (f, e)
@@ -57,6 +62,12 @@ pub ruleset readSteps = (
   length-none,
   mark-read,
   mark-none,
+  mark-number,
+  mark-number-none,
+  fault-from,
+  fault-more,
+  fault-through,
+  blank-wrong,
   lengths-read,
   lengths-none,
   kind-command,

@@ -8,7 +8,7 @@ use native.Mathlib.Omega.{arith}
 use lib.ListN.{length, getD, set, take, drop, length-set, length-map, length-drop, List·getD-map, List·getD-eq-default}
 use lib.Seq.{getD-take, getD-drop, set-getD, getD-set-same, getD-set-other, set-out, set-set, take-set-le, take-set-lt, drop-set-lt, drop-set-add, length-take-le, drop-drop}
 use lib.Dec.{eqb, leb, ltb}
-use borrow.Author.Tests.{eqb-true, eq-eqb, ne-eqb, ltb-true, ltb-false, lt-ltb, le-ltb, le-leb}
+use borrow.Author.Tests.{eqb-true, eq-eqb, ne-eqb, ltb-true, ltb-false, lt-ltb, le-ltb, le-leb, leb-true}
 use Rattle.octets.specs.Octets.{numberOf}
 use Rattle.octets.specs.Tests.{both, both-hold, Same, same, other, same?}
 use Rattle.types.specs.declared.Key.{Key}
@@ -20,7 +20,7 @@ use Rattle.slots.specs.Slots.{mostSlots, opened, freeSlot, withPart, atRank, at
 use Rattle.slots.specs.Found.{withPartIn}
 use Rattle.slots.specs.FrontLaws.{past}
 use Rattle.layout.specs.Blocks.{slotSize, blocks, blocks-length, block-size, block-octet, block-part, block-stored}
-use Rattle.layout.specs.Layout.{formatNumber, stateSize, headSize, place, own, isMark, wideNumber, slotOf, slotIn, recordIn, markFits, marksFit, slotMarksFit, headFits, known}
+use Rattle.layout.specs.Layout.{formatNumber, stateSize, headSize, place, own, isMark, markOctet, wideNumber, slotOf, slotIn, recordIn, markFits, marksFit, slotMarksFit, headFits, known}
 use Rattle.layout.specs.Changes.{slotFrom, withSlot, Stored, Became, withPair, withSender, withNumbers, withKey, withTotal}
 
 map-set : {A B : Type 0} (f : A → B) (l : List A) (i : ℕ) (a : A) → map f (set l i a) ≡ set (map f l) i (f a)
@@ -245,6 +245,26 @@ module _ (s : List ℕ) (i : ℕ) where
     mark-none l =
         let h : length (take 16 (drop 30 (own i s))) ≤ 16 = take-most 16 (drop 30 (own i s)) in
         rw (slot-here s i) (sym (List·getD-map isMark (take 16 (drop 30 (own i s))) k 0 ∙ ap isMark (List·getD-eq-default (take 16 (drop 30 (own i s))) 0 {n = k} (omega arith))))
+
+    -- of a state, the mark's octet is its number
+    mark-low : k < mostParts → known s ≡ true → leb (getD (own i s) (30 + k) 0) 1 ≡ true
+    unfolding marksFit
+    mark-low l w = go (ltb i mostSlots) refl
+      where
+        go : (b : Bool) → ltb i mostSlots ≡ b → leb (getD (own i s) (30 + k) 0) 1 ≡ true
+        go true e = all-at mostParts (markFits (own i s)) (own-marks s w i (ltb-true i mostSlots e)) k l
+        go false e = rw (own-none s i (ltb-false i mostSlots e))
+
+    pub mark-number : (q : ℕ) → k < mostParts → q ≡ getD (own i s) (30 + k) 0 → known s ≡ true → q ≡ markOctet (getD (slotFrom s i .held) k false)
+    mark-number q l e w = go q (getD (slotFrom s i .held) k false) (ap (λ (n : ℕ). leb n 1) e ∙ mark-low l w) (mark-read q l e)
+      where
+        go : (n : ℕ) (b : Bool) → leb n 1 ≡ true → not (eqb n 0) ≡ b → n ≡ markOctet b
+        go zero b m f = ap markOctet f
+        go (suc zero) b m f = ap markOctet f
+        go (suc (suc n)) b m f = absurd (omega (arith, leb-true (suc (suc n)) 1 m))
+
+    pub mark-number-none : mostParts ≤ k → known s ≡ true → 0 ≡ markOctet (getD (slotFrom s i .held) k false)
+    mark-number-none l w = ap markOctet (mark-none l)
 
   pub lengths-read : (r : List ℕ) → i < mostSlots → r ≡ take 16 (drop (place i 14) s) → r ≡ slotFrom s i .lengths
   unfolding slotIn slotOf

@@ -80,6 +80,13 @@ slotIn x = slotOf (take 14 x) (take 16 (drop 14 x)) (take 16 (drop 30 x))
 unfoldable pub recordIn : List ℕ → Record
 recordIn s = record { kind = kindIn (getD s 1 0); count = getD s 2 0; slots = map slotIn (blocks mostSlots (drop headSize s)) }
 
+-- all of a slot's octets behind its rank are zero
+abbrev pub blankAt : List ℕ → ℕ → Bool
+blankAt x p = eqb (getD x (p + 1) 0) 0
+
+abbrev pub blank : List ℕ → Bool
+blank x = allBelow 45 (blankAt x)
+
 -- ---- which octets are a record
 -- each mark is 0 or 1
 abbrev pub markFits : List ℕ → ℕ → Bool

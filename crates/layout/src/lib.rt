@@ -21,6 +21,9 @@ pub(crate) const HEAD: usize = 3;
 // The octets of a slot, and where its fields are among them.
 pub(crate) const BLOCK: usize = 46;
 
+// Those behind the rank.
+pub(crate) const BEHIND: usize = BLOCK - 1;
+
 pub(crate) const RANK: usize = 0;
 
 pub(crate) const BEATS: usize = 1;

@@ -1,5 +1,6 @@
 // What a state says, read where it is. A slot past the last says what a free one says.
 use crate::BEATS;
+use crate::BEHIND;
 use crate::BLOCK;
 use crate::HEAD;
 use crate::IDENTIFIER;
@@ -21,13 +22,13 @@ use types::PARTS;
 use types::SLOTS;
 use types::SerialNumber;
 ghost use mathlib.Core.Path.{_≡_};
-ghost use mathlib.Core.Bool.{false};
+ghost use mathlib.Core.Bool.{true, false};
 ghost use Prim.Native.Nat.{_+_, _≤_, _<_};
 ghost use lib.ListN.{getD, take, drop};
 ghost use Rattle.octets.specs.Octets.{numberOf};
 ghost use Rattle.slots.specs.Slots.{mostSlots, slotsIn};
 ghost use Rattle.layout.specs.Blocks.{slotSize};
-ghost use Rattle.layout.specs.Layout.{own, wideNumber, recordIn};
+ghost use Rattle.layout.specs.Layout.{own, wideNumber, recordIn, blank, known, markOctet};
 ghost use Rattle.layout.specs.Changes.{slotFrom};
 
 // ---- the record
@@ -134,6 +135,30 @@ pub fn mark_at(state: &[u8; STATE_OCTETS], i: usize, k: usize) -> bool
         return octet_at(state, i, MARKS + k) != 0;
     }
     false
+}
+
+// The mark as a number, to count it: if the octets are a state, 1 for a part that is held, and 0 for one that is not.
+pub fn mark_number(state: &[u8; STATE_OCTETS], i: usize, k: usize) -> u8
+    ensures { λ r. ⌜ (known (now (state .entry)) ≡ true → r ≡ markOctet (getD (slotFrom (now (state .entry)) i .held) k false)) ⌝ }
+{
+    if k < PARTS {
+        return octet_at(state, i, MARKS + k);
+    }
+    0
+}
+
+// Whether all octets of slot i but its rank are zero. Faults are gathered in an octet, so that all are looked at at once.
+pub fn is_blank(state: &[u8; STATE_OCTETS], i: usize) -> bool
+    ensures { λ r. ⌜ r ≡ blank (own i (now (state .entry))) ⌝ }
+{
+    let mut bad = 0;
+    let mut p = 0;
+    while p < BEHIND {
+        let wrong = octet_at(state, i, p + 1) != 0;
+        bad = bad | (wrong as u8);
+        p = p + 1;
+    }
+    bad == 0
 }
 
 // Octets of the state, where they are.
