@@ -51,7 +51,7 @@ part-wrong x i low high total h n k c e f t p q =
     go false t n l m = refl
 
 -- ---- the parts: the bounds of the later ones for all, and part 1 by itself
-agree : (a b : Bool) → (a ≡ true → b ≡ true) → (b ≡ true → a ≡ true) → a ≡ b
+pub agree : (a b : Bool) → (a ≡ true → b ≡ true) → (b ≡ true → a ≡ true) → a ≡ b
 agree true b f g = sym (f refl)
 agree false true f g = g refl
 agree false false f g = refl

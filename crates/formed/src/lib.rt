@@ -87,7 +87,7 @@ pub fn most(key: Key, number: usize) -> u8
 }
 
 // Whether a free slot's key is all zero.
-pub fn zero_key(key: Key) -> bool
+fn zero_key(key: Key) -> bool
     ensures { λ r. ⌜ r ≡ zeroKey key ⌝ }
 {
     (key.sender == 0)

@@ -1,22 +1,44 @@
 -- What the proofs of the test of a state cite: the laws of the tests of a record, and what octets that are a state tell.
-use Prim.Native.Nat.{ℕ}
+use Prim.Native.Nat.{ℕ, _+_, _≤_, _<_}
 use mathlib.Core.Path.{_≡_, sym, _∙_}
 use mathlib.Core.Bool.{Bool, true, false, not, cond, _&&_}
 use mathlib.Core.List.{List}
+use native.Mathlib.Omega.{arith}
+use lib.ListN.{getD}
 use lib.Dec.{eqb, ltb}
+use mir.Syntax.{w8}
+use mir.Val.{Fits}
 use borrow.Author.Needs.{needs}
 use Rattle.types.specs.declared.Kind.{Kind}
 use Rattle.types.specs.declared.Slot.{Slot}
+use Rattle.arrival.specs.Message.{mostParts}
 use Rattle.slots.specs.Slots.{mostSlots, used}
-use Rattle.formed.specs.Formed.{ranked, recordFormed}
+use Rattle.formed.specs.Formed.{markAt, ranked, recordFormed}
 use Rattle.formed.specs.Pieces.{slotsHold, slotsApart}
 use Rattle.formed.specs.TestLaws.{testLaws, formed-told, not-formed}
-use Rattle.layout.specs.Layout.{recordIn, known}
+use Rattle.layout.specs.Layout.{recordIn, known, markOctet}
+use Rattle.layout.specs.Changes.{slotFrom}
 use Rattle.layout.specs.Laws.{slots-long, lengths-sixteen, marks-sixteen}
+use Rattle.sound.proofs.BlankSteps.{blank-told}
 
 -- ---- what is read
 pub one-counted : (a b : Bool) (m : ℕ) → m ≡ cond a 1 0 → a ≡ b → m ≡ cond b 1 0
 one-counted a b m e f = rw (e, f)
+
+-- a mark of a state, counted as its number
+pub mark-told : (s : List ℕ) (i k q : ℕ) → (known s ≡ true → q ≡ markOctet (getD (slotFrom s i .held) k false)) → known s ≡ true → q ≡ cond (markAt (slotFrom s i) k) 1 0
+mark-told s i k q h w = h w
+
+module _ (b : Bool) (m q k : ℕ) (e : q ≡ cond b 1 0) (l : m ≤ k) where
+  small : (t : Bool) → cond t 1 0 ≤ 1
+  small true = omega arith
+  small false = omega arith
+
+  pub mark-within : m + q ≤ k + 1
+  mark-within = omega (arith, e, small b)
+
+  pub mark-fits : k < mostParts → Fits w8 (m + q)
+  mark-fits h = omega (arith, e, small b)
 
 pub used-read : (x : Slot) (r : ℕ) → r ≡ x .rank → not (eqb r 0) ≡ used x
 used-read x r e = rw e
@@ -55,6 +77,10 @@ pub ruleset steps = (
   lengths-sixteen,
   marks-sixteen,
   one-counted,
+  mark-told,
+  mark-within,
+  mark-fits,
+  blank-told,
   used-read,
   rank-read,
   record-told,

@@ -6,15 +6,16 @@ use formed::key_formed;
 use formed::most;
 use formed::one;
 use formed::total_fits;
-use formed::zero_key;
 use layout::STATE_OCTETS;
 use layout::known::is_known;
 use layout::read::beats_at;
 use layout::read::count_in;
+use layout::read::is_blank;
 use layout::read::key_at;
 use layout::read::kind_in;
 use layout::read::length_at;
 use layout::read::mark_at;
+use layout::read::mark_number;
 use layout::read::rank_at;
 use layout::read::total_at;
 use slots::find::same_key;
@@ -22,47 +23,20 @@ use types::Kind;
 use types::PARTS;
 use types::SLOTS;
 ghost use mathlib.Core.Path.{_≡_};
-ghost use mathlib.Core.Bool.{true, _&&_};
+ghost use mathlib.Core.Bool.{true, cond, _&&_};
 ghost use Prim.Native.Nat.{_≤_, _<_};
 ghost use Rattle.arrival.specs.Message.{mostParts};
 ghost use Rattle.slots.specs.Below.{allBelow};
 ghost use Rattle.slots.specs.Slots.{mostSlots, used, sameKey};
-ghost use Rattle.formed.specs.Formed.{zeroPart, allZero, partFormed, heldCount, usedFormed, slotFormed, countAhead, usedCount, isRank, ranked, recordFormed};
+ghost use Rattle.formed.specs.Formed.{markAt, partFormed, heldCount, usedFormed, slotFormed, countAhead, usedCount, isRank, ranked, recordFormed};
 ghost use Rattle.formed.specs.Pieces.{slotsHold, pairApart, apartBefore, slotsApart};
 ghost use Rattle.layout.specs.Layout.{recordIn, known};
 ghost use Rattle.layout.specs.Changes.{slotFrom};
 
 // ---- a slot
-// Whether no part of slot i is marked or has a length. Faults are gathered in an octet here and below, and no test leaves the loop, so that all
-// parts are looked at at once.
-fn zero_parts(state: &[u8; STATE_OCTETS], i: usize) -> bool
-    ensures { λ r. ⌜ r ≡ allBelow mostParts (zeroPart (slotFrom (now (state .entry)) i)) ⌝ }
-{
-    let mut bad = 0;
-    let mut k = 0;
-    while k < PARTS {
-        let h = mark_at(state, i, k);
-        let n = length_at(state, i, k);
-        let wrong = h | (n != 0);
-        bad = bad | (wrong as u8);
-        k = k + 1;
-    }
-    bad == 0
-}
-
-// Whether all of slot i but its rank is zero.
-fn all_zero(state: &[u8; STATE_OCTETS], i: usize) -> bool
-    ensures { λ r. ⌜ r ≡ allZero (slotFrom (now (state .entry)) i) ⌝ }
-{
-    let key = key_at(state, i);
-    let total = total_at(state, i);
-    let beats = beats_at(state, i);
-    let none = zero_parts(state, i);
-    zero_key(key) & (total == 0) & (beats == 0) & none
-}
-
 // Whether each part of a used slot is as it can be. The bounds of a length depend on the key alone, but for part 1, which is looked at by
-// itself: if it is missing its length is 0, which fits.
+// itself: if it is missing its length is 0, which fits. Faults are gathered in an octet, and no test leaves the loop, so that all parts are looked
+// at at once.
 fn parts_formed(state: &[u8; STATE_OCTETS], i: usize) -> bool
     ensures { λ r. ⌜ r ≡ allBelow mostParts (partFormed (slotFrom (now (state .entry)) i)) ⌝ }
 {
@@ -84,14 +58,23 @@ fn parts_formed(state: &[u8; STATE_OCTETS], i: usize) -> bool
     (bad == 0) & (first <= most(key, 1))
 }
 
+// The mark of the part at place k, to count it: in a state it is 0 or 1.
+fn mark_in(state: &[u8; STATE_OCTETS], i: usize, k: usize) -> u8
+    requires { ⌜ known (now state) ≡ true ⌝ }
+    ensures { λ r. ⌜ r ≡ cond (markAt (slotFrom (now (state .entry)) i) k) 1 0 ⌝ }
+{
+    mark_number(state, i, k)
+}
+
 // How many parts slot i holds.
 fn held_count(state: &[u8; STATE_OCTETS], i: usize) -> u8
+    requires { ⌜ known (now state) ≡ true ⌝ }
     ensures { λ r. ⌜ r ≡ heldCount (slotFrom (now (state .entry)) i) ⌝ }
 {
     let mut m = 0;
     let mut k = 0;
     while k < PARTS {
-        m = m + one(mark_at(state, i, k));
+        m = m + mark_in(state, i, k);
         k = k + 1;
     }
     m
@@ -99,6 +82,7 @@ fn held_count(state: &[u8; STATE_OCTETS], i: usize) -> u8
 
 // Whether a used slot is well formed: key, total and parts, at least one held and not all, and its count of beats.
 fn used_formed(state: &[u8; STATE_OCTETS], i: usize, kind: Kind) -> bool
+    requires { ⌜ known (now state) ≡ true ⌝ }
     ensures { λ r. ⌜ r ≡ usedFormed kind (slotFrom (now (state .entry)) i) ⌝ }
 {
     let key = key_at(state, i);
@@ -109,7 +93,7 @@ fn used_formed(state: &[u8; STATE_OCTETS], i: usize, kind: Kind) -> bool
     key_formed(kind, key) & total_fits(key, total) & parts & (0 < m) & (m < total) & (beats <= 254)
 }
 
-// Whether slot i is well formed, used or free.
+// Whether slot i is well formed, used or free. A free one is all zero.
 fn slot_formed(state: &[u8; STATE_OCTETS], i: usize, kind: Kind) -> bool
     requires { ⌜ known (now state) ≡ true ⌝ }
     requires { ⌜ i < mostSlots ⌝ }
@@ -117,7 +101,7 @@ fn slot_formed(state: &[u8; STATE_OCTETS], i: usize, kind: Kind) -> bool
 {
     let free = rank_at(state, i) == 0;
     if free {
-        return all_zero(state, i);
+        return is_blank(state, i);
     }
     used_formed(state, i, kind)
 }

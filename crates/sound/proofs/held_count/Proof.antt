@@ -1,4 +1,4 @@
--- `held_count` meets its contract: the number is the count of the marks before k, and behind the last part of all of them. Assumes nothing.
+-- `held_count` meets its contract: the number is the sum of the marks before k, and behind the last part of all of them. Assumes nothing.
 use Prim.Native.Nat.{_≤_, _-_}
 use mathlib.Core.Path.{_≡_}
 use Rattle.arrival.specs.Message.{mostParts}
@@ -18,5 +18,5 @@ abbrev μ-loop : tie.MeasureT-loop
 pub held-count-spec : {M : Type 1} → statement M
 held-count-spec =
     tie.close
-    (tie.spec Inv-loop μ-loop (λ c. search steps) (λ c κs. search steps) (λ c κs. search steps) (λ c. search steps) (λ c. search steps)
-    (λ c. search steps) (λ c. search steps) (λ c. search steps))
+    (tie.spec Inv-loop μ-loop (λ c. search steps) (λ c κs. search steps) (λ c. search steps) (λ c. search steps) (λ c. search steps)
+    (λ c. search steps) (λ c. search steps))
