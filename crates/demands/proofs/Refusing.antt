@@ -26,7 +26,7 @@ use Rattle.formed.specs.Formed.{slotsFormed, recordFormed}
 use Rattle.formed.specs.Laws.{Formed, number-tells, number-told, formed-tells, fresh-formed, formed-told}
 use Rattle.types.specs.declared.Record.{Record}
 use Rattle.beats.specs.Beats.{beating, leavesBeat, beat}
-use Rattle.series.specs.Cells.{cellsSize, joinedOctets}
+use Rattle.cells.specs.Cells.{cellsSize, joinedOctets}
 use Rattle.series.specs.Taking.{State, state, After, kept, heldAlready, packet, refusedBy, Step, handOut, acted, step, takePart, taken, unfit, refuse}
 use Rattle.series.specs.CaseLaws.{Case, other-total, other-octets, held-so, last, more, takes-free, displaces, case-of}
 use Rattle.series.specs.Calls.{Input, octetsOf, read, takeInput}

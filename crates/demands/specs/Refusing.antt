@@ -20,7 +20,7 @@ use Rattle.slots.specs.Slots.{slotAt, heldAt, freed, withSlots, freshRecord, be
 use Rattle.formed.specs.Formed.{recordFormed}
 use Rattle.types.specs.declared.Record.{Record}
 use Rattle.beats.specs.Beats.{beaten, beat}
-use Rattle.series.specs.Cells.{cellsSize}
+use Rattle.cells.specs.Cells.{cellsSize}
 use Rattle.series.specs.Taking.{State, refusedBy, state, refuse, completes}
 use Rattle.series.specs.CaseLaws.{Bears}
 use Rattle.series.specs.Calls.{Input, read, takeInput}

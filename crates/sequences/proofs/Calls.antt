@@ -21,7 +21,7 @@ use Rattle.types.specs.declared.Record.{Record}
 use Rattle.slots.specs.Slots.{slotAt, withSlots, freshRecord}
 use Rattle.formed.specs.Formed.{recordFormed}
 use Rattle.formed.specs.Laws.{Formed, formed-told, fresh-slot, fresh-formed}
-use Rattle.series.specs.Cells.{cellsSize}
+use Rattle.cells.specs.Cells.{cellsSize}
 use Rattle.series.specs.Taking.{State, After, state, refuse, unfit, taken, takeMessage, takePage}
 use Rattle.beats.specs.Beats.{AfterBeat, beaten, slotsAfterBeat, droppedBy, leavesBeat, beat}
 use Rattle.beats.specs.Laws.{beat-formed}

@@ -26,7 +26,7 @@ use Rattle.beats.specs.Beats.{AfterBeat, slotsAfterBeat, beat}
 use Rattle.beats.specs.Laws.{stayed}
 use Rattle.slots.specs.FrontLaws.{key-same, front-here, front-there, freed-here, freed-there}
 use Rattle.formed.specs.Laws.{Formed, array-holds}
-use Rattle.series.specs.Cells.{joinedOctets}
+use Rattle.cells.specs.Cells.{joinedOctets}
 use Rattle.series.specs.Taking.{State, After, Answer, state, kept, heldAlready, packet, refusedBy, Step, acted, handOut, step, takePart, taken, unfit, refuse}
 use Rattle.series.specs.CaseLaws.{Bears, Lacks, Case, other-total, other-octets, held-so, last, more, takes-free, displaces, case-of}
 use Rattle.series.specs.Calls.{Input, octetsOf, read, takeInput}

@@ -24,7 +24,7 @@ use Rattle.arrival.specs.Keys.{ofPages}
 use Rattle.joined.specs.Fronts.{packetIn}
 use Rattle.slots.specs.BelowLaws.{all-at, all-hold}
 use Rattle.slots.specs.FrontLaws.{key-same}
-use Rattle.series.specs.Cells.{cellsSize}
+use Rattle.cells.specs.Cells.{cellsSize}
 use Rattle.series.specs.CaseLaws.{Lacks}
 use Rattle.series.specs.Taking.{State, After, state, packet, after, handOut, taken}
 use Rattle.series.specs.Calls.{Input, message, page, octetsOf, read}

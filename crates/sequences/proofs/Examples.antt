@@ -15,7 +15,7 @@ use Rattle.arrival.specs.Message.{judged, readMessage}
 use Rattle.arrival.specs.Page.{readPage}
 use Rattle.slots.specs.Slots.{mostSlots, freeSlot, isFree, bears, find, findIn, aged, toFront, freshRecord}
 use Rattle.formed.specs.Laws.{fresh-formed}
-use Rattle.series.specs.Cells.{joined, joinedOctets}
+use Rattle.cells.specs.Cells.{joined, joinedOctets}
 use Rattle.series.specs.Taking.{state, taken, step, takePart}
 use Rattle.series.specs.Calls.{octetsOf, read}
 use Rattle.sequences.specs.Runs.{Slots}

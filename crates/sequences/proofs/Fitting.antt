@@ -24,7 +24,7 @@ use Rattle.slots.specs.FrontLaws.{front-here, front-there, freed-here, freed-th
 use Rattle.formed.specs.Laws.{Formed, fresh-slot, array-holds}
 use Rattle.beats.specs.Beats.{AfterBeat, slotsAfterBeat, afterBeat, beat}
 use Rattle.beats.specs.Laws.{Beaten, was-free, is-dropped, is-older, beaten?, beat-at}
-use Rattle.series.specs.Cells.{joinedOctets}
+use Rattle.cells.specs.Cells.{joinedOctets}
 use Rattle.series.specs.Taking.{State, After, state, refuse, handOut, Step, acted, step, takePart, taken, unfit}
 use Rattle.series.specs.CaseLaws.{Case, other-total, other-octets, held-so, last, more, takes-free, displaces, case-of}
 use Rattle.series.specs.Calls.{Input, message, page, octetsOf, read}

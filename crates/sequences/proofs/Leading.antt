@@ -21,7 +21,7 @@ use Rattle.joined.specs.Fronts.{packetIn}
 use Rattle.slots.specs.Slots.{slotAt, opened, heldAt, withPart, toFront, freed}
 use Rattle.formed.specs.Laws.{Formed}
 use Rattle.beats.specs.Beats.{slotsAfterBeat}
-use Rattle.series.specs.Cells.{cellsSize, joinedOctets}
+use Rattle.cells.specs.Cells.{cellsSize, joinedOctets}
 use Rattle.series.specs.Taking.{State, After, state, Step, keeps, finishes, completes, acted, step, takePart, taken}
 use Rattle.series.specs.CaseLaws.{Bears, Lacks, Case, other-total, other-octets, held-so, last, more, takes-free, displaces, case-of}
 use Rattle.series.specs.Calls.{octetsOf}

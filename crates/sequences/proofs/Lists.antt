@@ -15,7 +15,7 @@ use Rattle.slots.specs.BelowLaws.{all-at, all-same}
 use Rattle.slots.specs.FrontLaws.{same-key, key-same}
 use Rattle.types.specs.declared.Slot.{Slot}
 use Rattle.slots.specs.Slots.{slotAt, sameKey}
-use Rattle.series.specs.Cells.{joined}
+use Rattle.cells.specs.Cells.{joined}
 use Rattle.series.specs.Taking.{Answer}
 use Rattle.series.specs.CaseLaws.{Lacks}
 use Rattle.sequences.specs.Lists.{concat, elem, elemKey, add, addKey, complete, dropKey}

@@ -27,7 +27,7 @@ use Rattle.slots.specs.Slots.{slotAt, freed, withSlots}
 use Rattle.formed.specs.Formed.{slotsFormed, recordFormed}
 use Rattle.formed.specs.Laws.{Formed, formed-tells}
 use Rattle.beats.specs.Beats.{droppedBy, leavesBeat, beat}
-use Rattle.series.specs.Cells.{cellsSize, joinedOctets}
+use Rattle.cells.specs.Cells.{cellsSize, joinedOctets}
 use Rattle.series.specs.Taking.{State, Answer, kept, heldAlready, packet, refusedBy, After, Step, handOut, acted, step, takePart, taken}
 use Rattle.series.specs.CaseLaws.{Case, other-total, other-octets, held-so, last, more, takes-free, displaces, case-of}
 use Rattle.series.specs.Calls.{Input, message, page, octetsOf, read, takeInput}

@@ -18,7 +18,7 @@ use Rattle.slots.specs.Slots.{slotAt, freeSlot, used, freed, freshRecord}
 use Rattle.slots.specs.FrontLaws.{freed-here, freed-there}
 use Rattle.formed.specs.Formed.{heldCount, slotsFormed, recordFormed}
 use Rattle.formed.specs.Laws.{Formed, formed-tells, slot-tells, fresh-slot, fresh-formed}
-use Rattle.series.specs.Cells.{cellsSize}
+use Rattle.cells.specs.Cells.{cellsSize}
 use Rattle.sequences.specs.Runs.{Slots, Event, Store, fresh, leftBy, run}
 use Rattle.sequences.specs.Reachable.{KeysFit, Possible, Acceptance}
 use Rattle.sequences.proofs.Along.{All, each}

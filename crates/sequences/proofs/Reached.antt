@@ -28,7 +28,7 @@ use Rattle.slots.specs.RankLaws.{hasRank, rank-bound, ranks-differ, Aged, free,
 use Rattle.slots.specs.FrontLaws.{front-here, front-there}
 use Rattle.slots.specs.Slots.{slotAt, opened, atFront, withPart, withSlots, aged, agedSlot, toFront}
 use Rattle.formed.specs.Laws.{Formed, array-holds}
-use Rattle.series.specs.Cells.{cellsSize}
+use Rattle.cells.specs.Cells.{cellsSize}
 use Rattle.series.specs.Taking as Taking
 use Rattle.series.specs.Taking.{State, After, state, after, Step, acted, step, takePart, taken, packet}
 use Rattle.series.specs.CaseLaws.{Lacks, Case, other-total, other-octets, held-so, last, more, takes-free, displaces, case-of}

@@ -27,7 +27,7 @@ use Rattle.formed.specs.Formed.{slotsFormed, recordFormed}
 use Rattle.formed.specs.Laws.{Formed, array-holds, formed-tells, formed-told}
 use Rattle.beats.specs.Beats.{AfterBeat, afterBeat, slotsAfterBeat, droppedBy, beaten, beat}
 use Rattle.beats.specs.Laws.{Beaten, was-free, is-dropped, is-older, beaten?, beat-at, stayed, beat-formed}
-use Rattle.series.specs.Cells.{cellsSize, joinedOctets}
+use Rattle.cells.specs.Cells.{cellsSize, joinedOctets}
 use Rattle.series.specs.Taking.{State, After, state, kept, packet, handOut, Step, acted, step, takePart, taken}
 use Rattle.series.specs.CaseLaws.{Lacks, Case, other-total, other-octets, held-so, last, more, takes-free, displaces, case-of}
 use Rattle.series.specs.Calls.{octetsOf, read}

@@ -21,8 +21,8 @@ use Rattle.formed.specs.Formed.{markAt, sizeAt}
 use Rattle.slots.specs.RankLaws.{pos-taken}
 use Rattle.slots.specs.FrontLaws.{front-here}
 use Rattle.formed.specs.Laws.{UsedSlot}
-use Rattle.series.specs.Cells.{cellOctets, cellsSize, cellAt, cellPart}
-use Rattle.series.specs.CellLaws.{part-by-length, cell-here, cell-there}
+use Rattle.cells.specs.Cells.{cellOctets, cellsSize, cellAt, cellPart}
+use Rattle.cells.specs.CellLaws.{part-by-length, cell-here, cell-there}
 use Rattle.series.specs.CaseLaws.{Bears, Lacks}
 use Rattle.beats.specs.Beats.{slotsAfterBeat}
 use Rattle.beats.specs.Laws.{stayed, stays-on}

@@ -28,8 +28,8 @@ use Rattle.slots.specs.RankLaws.{hasRank, pos-taken, aged-taken, aged-mono, clo
 use Rattle.slots.specs.FrontLaws.{front-here, front-there, freed-here, freed-there}
 use Rattle.formed.specs.Laws.{array-holds, Formed, UsedSlot, slot-tells}
 use Rattle.series.specs.PartLaws.{total-bounds}
-use Rattle.series.specs.Cells.{cellOctets, cellsSize, cellAt, cellPart, partOf, joinedOctets}
-use Rattle.series.specs.CellLaws.{part-by-length, cell-there}
+use Rattle.cells.specs.Cells.{cellOctets, cellsSize, cellAt, cellPart, partOf, joinedOctets}
+use Rattle.cells.specs.CellLaws.{part-by-length, cell-there}
 use Rattle.series.specs.Taking.{State, After, state, kept, heldAlready, after, Step, repeats, keeps, finishes, completes, acted, handOut}
 use Rattle.series.specs.CaseLaws.{Bears, Lacks, Case, other-total, other-octets, held-so, last, more, takes-free, displaces}
 use Rattle.beats.specs.Beats.{slotsAfterBeat}

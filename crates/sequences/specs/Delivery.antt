@@ -14,7 +14,7 @@ use Rattle.types.specs.declared.Key.{Key}
 use Rattle.arrival.specs.Message.{mostUserData}
 use Rattle.arrival.specs.Page.{pageOctets, pageKey, identifierInRange}
 use Rattle.arrival.specs.Keys.{referenceFits}
-use Rattle.series.specs.Cells.{cellsSize}
+use Rattle.cells.specs.Cells.{cellsSize}
 use Rattle.series.specs.Taking.{packet, after}
 use Rattle.series.specs.CaseLaws.{Lacks}
 use Rattle.series.specs.Calls.{Input, message, page}

@@ -11,7 +11,7 @@ use Rattle.packet.specs.Packets.{mostOctets}
 use Rattle.types.specs.declared.Slot.{Slot}
 use Rattle.types.specs.declared.Record.{Record}
 use Rattle.slots.specs.Slots.{freeSlot, freshRecord}
-use Rattle.series.specs.Cells.{cellsSize}
+use Rattle.cells.specs.Cells.{cellsSize}
 use Rattle.series.specs.Taking.{After, kept, packet, refusedBy, state, after}
 use Rattle.series.specs.Calls.{Input, message, page, takeInput}
 

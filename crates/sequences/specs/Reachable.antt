@@ -11,7 +11,7 @@ use Rattle.packet.specs.Packets.{mostOctets}
 use Rattle.slots.specs.Slots.{mostSlots, slotAt}
 use Rattle.formed.specs.Formed.{recordFormed}
 use Rattle.beats.specs.Beats.{beat}
-use Rattle.series.specs.Cells.{cellsSize}
+use Rattle.cells.specs.Cells.{cellsSize}
 use Rattle.series.specs.Taking.{State, refusedBy}
 use Rattle.series.specs.Calls.{Input, message, page, takeInput}
 use Rattle.sequences.specs.Runs.{Event, takes, beats, Slots, fresh, run, Proper, Each}

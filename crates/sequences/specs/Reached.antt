@@ -9,7 +9,7 @@ use Rattle.types.specs.declared.Kind.the-variants.{Command}
 use Rattle.packet.specs.Packets.{mostOctets}
 use Rattle.types.specs.declared.Key.{Key}
 use Rattle.arrival.specs.Page.{pageKey}
-use Rattle.series.specs.Cells.{cellsSize}
+use Rattle.cells.specs.Cells.{cellsSize}
 use Rattle.series.specs.Taking.{kept, packet}
 use Rattle.series.specs.CaseLaws.{Lacks}
 use Rattle.series.specs.Calls.{Input, message, page}

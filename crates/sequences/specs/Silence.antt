@@ -14,7 +14,7 @@ use Rattle.arrival.specs.Arrivals.{part}
 use Rattle.slots.specs.Slots.{slotAt, freeSlot, atCount}
 use Rattle.formed.specs.Formed.{recordFormed}
 use Rattle.beats.specs.Beats.{droppedBy, beaten, beat}
-use Rattle.series.specs.Cells.{cellsSize}
+use Rattle.cells.specs.Cells.{cellsSize}
 use Rattle.series.specs.Taking.{kept, packet}
 use Rattle.series.specs.CaseLaws.{Lacks}
 use Rattle.series.specs.Calls.{read}

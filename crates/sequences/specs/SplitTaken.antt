@@ -11,7 +11,7 @@ use Rattle.types.specs.declared.Key.{Key}
 use Rattle.arrival.specs.Message.{messageKey}
 use Rattle.arrival.specs.Page.{pageKey, identifierInRange}
 use Rattle.arrival.specs.Keys.{referenceFits}
-use Rattle.series.specs.Cells.{cellsSize}
+use Rattle.cells.specs.Cells.{cellsSize}
 use Rattle.series.specs.CaseLaws.{Lacks}
 use Rattle.series.specs.Calls.{Input, message, page}
 use Rattle.split.specs.Splitting as split

@@ -16,7 +16,7 @@ use Rattle.arrival.specs.Keys.{ofPages}
 use Rattle.joined.specs.Fronts.{pagesAllow}
 use Rattle.types.specs.declared.Record.{Record}
 use Rattle.slots.specs.Slots.{slotAt, sameKey}
-use Rattle.series.specs.Cells.{cellsSize, cellAt}
+use Rattle.cells.specs.Cells.{cellsSize, cellAt}
 use Rattle.series.specs.Taking.{After, Answer, kept, heldAlready, packet, refusedBy, after}
 use Rattle.series.specs.CaseLaws.{Bears, Lacks}
 use Rattle.series.specs.Calls.{read, octetsOf}

@@ -1,4 +1,1 @@
-pub mod CellLaws
-pub mod CellSteps
-pub mod TakeLaws
 pub mod TakeSteps

@@ -40,14 +40,14 @@ use Rattle.slots.specs.Found.{newSeatIn, seatOf, seat-found, seat-not-found, wi
 use Rattle.slots.specs.Slots.{slotAt, isFree, findIn, opened, freeSlot, heldAt, lengthAt, withPart, atFront, toFront, freed, withSlots, slotsIn}
 use Rattle.slots.specs.Order.{replaced, front-in, freed-in}
 use Rattle.formed.specs.Formed.{recordFormed}
-use Rattle.series.specs.Cells.{cellsSize, cellAt, cellPart, joinedOctets}
-use Rattle.series.specs.Handing.{Short, cellStart, seriesOctets}
+use Rattle.cells.specs.Cells.{cellsSize, cellAt, cellPart, joinedOctets}
+use Rattle.cells.specs.Handing.{Place, Reaches, hasCell, cellStart, afterStore, seriesOctets, packetOf}
 use Rattle.series.specs.Taking.{State, Answer, After, toldAnswer, kept, packet, refusedBy, state, after, handOut, completes, Step, refuses, repeats, keeps, finishes, stepNew, step, acted, takePart, takeMessage, takePage}
 use Rattle.series.specs.KeepLaws.{Sound}
 use Rattle.series.specs.Deciding.{allWith, hasWith, toldStep, stepAt, anyKeyOf, answerOf, Room, Whole, fronted, emptied, changed, Holds, Seated, Makes, Fitting, takenWhereFit}
-use Rattle.series.proofs.CellLaws.{cell-part, joined-pieces, short-at}
-use Rattle.series.proofs.TakeLaws as law
-use Rattle.series.proofs.TakeLaws.{message-fitting, page-fitting}
+use Rattle.cells.specs.CellLaws.{cell-part, joined-pieces, store-in, same-in, packet-of}
+use Rattle.series.specs.TakeLaws as law
+use Rattle.series.specs.TakeLaws.{message-fitting, page-fitting}
 
 -- ---- deciding
 module _ (held : List Bool) (t number : ℕ) where
@@ -66,9 +66,10 @@ module _ (cells : List ℕ) (total number : ℕ) (octets : List ℕ) (i : ℕ) (
   other-total ne = rw (ne-eqb (x .total) total ne)
 
   module _ (is : x .total ≡ total) where
-    module _ (held : heldAt x number ≡ true) (b : Bool) (same : b ≡ sameOctets (cellStart cells i number (lengthAt x number)) octets) where
+    module _ (held : heldAt x number ≡ true) (place : Place i number) (size : Reaches i cells) (b : Bool)
+        (same : b ≡ (hasCell (length cells) i number && sameOctets (cellStart cells i number (lengthAt x number)) octets)) where
       compared : b ≡ sameOctets (cellPart cells x i number) octets
-      compared = rw (same, cell-part cells x i number)
+      compared = same ∙ same-in i number place cells size (lengthAt x number) octets ∙ rw (cell-part cells x i number)
 
       pub held-same : b ≡ true → repeats i ≡ stepAt cells total number octets i x
       held-same e = rw (eq-eqb (x .total) total is, held, ← compared, e)
@@ -104,6 +105,10 @@ pub part-kept : (i number : ℕ) (octets cells : List ℕ) (a : response.Answer)
 part-kept i number octets cells a n x y c room e h =
     h ∙ ap (fronted a i) (e ∙ with-part-in x number n (room .place .1) (room .place .2))
 
+pub part-stored : (i number : ℕ) (octets cells cells′ : List ℕ) → Room i number octets cells → cells′ ≡ afterStore cells i number octets
+    → cells′ ≡ placed cells (cellAt i number) octets
+part-stored i number octets cells cells′ room e = e ∙ store-in i number (room .place) cells (room .size) octets (room .short)
+
 pub slot-emptied : (a : response.Answer) (i : ℕ) (x : Slot) → x ≡ freeSlot
     → record { answer = a; moves = true; front = false; slot = i; entry = x } ≡ emptied a i
 slot-emptied a i x e = rw e
@@ -138,33 +143,20 @@ module _ (k : Kind) (paged : Bool) (octets output : List ℕ) (fits : length oct
   single-output o e = rw (← packet-for k paged octets (length output) fits) e
 
 -- the parts of a slot x with the one that arrives, where t is the total as a length
-pub whole-short : (x : Slot) (i number : ℕ) (octets cells output : List ℕ) → Whole x i number octets cells output → Short (x .lengths)
-whole-short x i number octets cells output w = w .lengths
+module _ (x : Slot) (i number : ℕ) (octets cells output : List ℕ) (room : Room i number octets cells) (w : Whole x i number octets cells output)
+    (t : ℕ) (is : t ≡ x .total) (k : Kind) (paged : Bool) where
+  same-packet : packetOf k paged cells (x .lengths) t i number octets (length output) ≡ packetIn k paged (x .total) (joinedOctets cells x i number octets)
+  same-packet =
+      rw is (packet-of k paged cells (x .lengths) (x .total) i number octets (length output) (room .place .0) (room .size) (w .lengths) (w .most) (room .short)
+      (rw (joined-pieces cells x i number octets) (w .joined)) ∙ rw (joined-pieces cells x i number octets))
 
-module _ (x : Slot) (i number : ℕ) (octets cells output : List ℕ) (t : ℕ) (is : t ≡ x .total) where
-  same-octets : seriesOctets cells (x .lengths) t i number octets ≡ joinedOctets cells x i number octets
-  same-octets = rw is (joined-pieces cells x i number octets)
+  pub whole-answer : (z : Size) (a : Answer) → toldSize z ≡ lengthIn (packetOf k paged cells (x .lengths) t i number octets (length output))
+      → a ≡ answerOf (toldSize z) → a ≡ answerOf (lengthIn (packetIn k paged (x .total) (joinedOctets cells x i number octets)))
+  whole-answer z a e h = rw (← same-packet, ← e) h
 
-  pub whole-some : Whole x i number octets cells output → 0 < t
-  whole-some w = rw is (w .some)
-
-  pub whole-total : Whole x i number octets cells output → t ≤ mostParts
-  whole-total w = rw is (w .most)
-
-  pub whole-fits : Whole x i number octets cells output → length (seriesOctets cells (x .lengths) t i number octets) ≤ length output
-  whole-fits w = rw same-octets (w .joined)
-
-  module _ (k : Kind) (paged : Bool) where
-    same-packet : packetIn k paged t (seriesOctets cells (x .lengths) t i number octets) ≡ packetIn k paged (x .total) (joinedOctets cells x i number octets)
-    same-packet = rw (same-octets, is)
-
-    pub whole-answer : (z : Size) (a : Answer) → toldSize z ≡ lengthIn (packetIn k paged t (seriesOctets cells (x .lengths) t i number octets))
-        → a ≡ answerOf (toldSize z) → a ≡ answerOf (lengthIn (packetIn k paged (x .total) (joinedOctets cells x i number octets)))
-    whole-answer z a e h = rw (← same-packet, ← e) h
-
-    pub whole-output : (o : List ℕ) → o ≡ outputWith (packetIn k paged t (seriesOctets cells (x .lengths) t i number octets)) output
-        → o ≡ outputWith (packetIn k paged (x .total) (joinedOctets cells x i number octets)) output
-    whole-output o e = rw (← same-packet) e
+  pub whole-output : (o : List ℕ) → o ≡ outputWith (packetOf k paged cells (x .lengths) t i number octets (length output)) output
+      → o ≡ outputWith (packetIn k paged (x .total) (joinedOctets cells x i number octets)) output
+  whole-output o e = rw (← same-packet) e
 
 -- an answer and an output that tell of a packet are what handing out comes to
 handed-out : (s : State) (r : Record) (a : Answer) (o : List ℕ) (p : Option (List ℕ)) → a ≡ answerOf (lengthIn p) → o ≡ outputWith p (s .output)
@@ -351,7 +343,6 @@ pub ruleset decideSteps = (
   fault-through,
   part-lacks,
   none-lacks,
-  short-at,
   other-total,
   held-same,
   held-other,
@@ -362,23 +353,19 @@ pub ruleset decideSteps = (
 pub ruleset actSteps = (
   needs,
   part-kept,
+  part-stored,
   slot-emptied,
   slot-fronted,
   answer-packet,
   answer-none,
   single-answer,
   single-output,
-  whole-short,
-  whole-some,
-  whole-total,
-  whole-fits,
   whole-answer,
   whole-output,
 )
 
 pub ruleset moreSteps = (
   needs,
-  whole-short,
   acts-refuses,
   acts-repeats,
   acts-keeps,

@@ -14,7 +14,7 @@ use Rattle.octets.specs.Tests.{clash, both}
 use Rattle.types.specs.declared.Key.{Key}
 use Rattle.types.specs.declared.Slot.{Slot}
 use Rattle.slots.specs.Slots.{slotAt, opened, used, sameKey, bears, isFree, findIn, isLeastRecent, slotOr, heldAt}
-use Rattle.series.specs.Cells.{cellPart}
+use Rattle.cells.specs.Cells.{cellPart}
 use Rattle.series.specs.Taking.{State, Step, refuses, repeats, keeps, finishes, completes, stepNew, stepFor, step}
 use Rattle.slots.specs.RankLaws.{pos-taken, last-rank}
 use Rattle.slots.specs.FrontLaws.{same-key, key-same, FoundIn, hit-in, miss-in, find-in?}

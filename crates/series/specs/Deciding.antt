@@ -26,8 +26,8 @@ use Rattle.slots.specs.Below.{allBelow}
 use Rattle.slots.specs.Slots.{slotAt, atFront, noKey, freeSlot, slotsIn, freshRecord}
 use Rattle.slots.specs.Found.{seatOf}
 use Rattle.slots.specs.Order.{replaced}
-use Rattle.series.specs.Cells.{cellOctets, joinedOctets}
-use Rattle.series.specs.Handing.{Place, Reaches, Short}
+use Rattle.cells.specs.Cells.{cellOctets, joinedOctets}
+use Rattle.cells.specs.Handing.{Place, Reaches}
 use Rattle.series.specs.Taking.{State, After, Answer, toldAnswer, refusedBy, packet, state, after, refuse, taken, unfit, Step, refuses, repeats, keeps, finishes, stepIn}
 
 -- ---- the step
@@ -68,7 +68,7 @@ pub record Room (i number : ℕ) (octets cells : List ℕ) : Type 0 where
 
 -- what joining the parts of slot i, which is x, relies on
 pub record Whole (x : Slot) (i number : ℕ) (octets cells output : List ℕ) : Type 0 where
-  pub lengths : Short (x .lengths)
+  pub lengths : length (x .lengths) ≡ mostParts
   pub some : 0 < x .total
   pub most : x .total ≤ mostParts
   pub joined : length (joinedOctets cells x i number octets) ≤ length output

@@ -23,8 +23,8 @@ use Rattle.formed.specs.Formed.{slotFormed}
 use Rattle.formed.specs.Laws.{Formed, UsedSlot, slot-tells, slot-front, front-formed, free-formed}
 use Rattle.series.specs.PartLaws.{total-bounds, ready-held, ready-opened, part-more}
 use Rattle.series.specs.CaseLaws.{Bears, Case, other-total, other-octets, held-so, last, more, takes-free, displaces, case-of}
-use Rattle.series.specs.Cells.{cellOctets, cellsSize, joinedOctets}
-use Rattle.series.specs.CellLaws.{cells-size}
+use Rattle.cells.specs.Cells.{cellOctets, cellsSize, joinedOctets}
+use Rattle.cells.specs.CellLaws.{cells-size}
 use Rattle.series.specs.Taking.{completes, State, After, Step, refuses, repeats, keeps, finishes, handOut, acted, step, takePart, taken}
 
 -- a part's octets fit its cell

@@ -1,9 +1,7 @@
-pub mod Cells
 pub mod Taking
 pub mod PartLaws
 pub mod CaseLaws
-pub mod CellLaws
 pub mod KeepLaws
 pub mod Calls
-pub mod Handing
 pub mod Deciding
+pub mod TakeLaws

@@ -20,7 +20,7 @@ use Rattle.types.specs.declared.Answer as declared
 use Rattle.slots.specs.Below.{allBelow}
 use Rattle.slots.specs.Slots.{slotAt, bears, isFree, findIn, leastRecent, opened, heldAt, withPart, toFront, freed, withSlots}
 use Rattle.formed.specs.Formed.{recordFormed, markAt}
-use Rattle.series.specs.Cells.{cellsSize, cellAt, cellPart, joinedOctets}
+use Rattle.cells.specs.Cells.{cellsSize, cellAt, cellPart, joinedOctets}
 
 -- ---- what a call works on, and what it comes to
 -- the record, the lent cells and the lent output

@@ -1,7 +1,5 @@
 // Taking a message or a page (01, "Series" and "Numbers of refusal"): 1, then what reading refuses, then 7, 8, 9. What is due is decided
 // before anything is written.
-use crate::cells;
-use crate::packets;
 use formed::record_formed;
 use joined::Size;
 use slots::find;
@@ -31,8 +29,8 @@ ghost use Rattle.arrival.specs.Message.{mostParts};
 ghost use Rattle.joined.specs.Fronts.{packetIn, toldSize, lengthIn, outputWith};
 ghost use Rattle.slots.specs.Slots.{withPart, slotsIn};
 ghost use Rattle.formed.specs.Formed.{recordFormed};
-ghost use Rattle.series.specs.Cells.{cellsSize, cellAt, joinedOctets};
-ghost use Rattle.series.specs.Handing.{Place, Reaches, Short};
+ghost use Rattle.cells.specs.Cells.{cellsSize, cellAt, joinedOctets};
+ghost use Rattle.cells.specs.Handing.{Place, Reaches};
 ghost use Rattle.series.specs.Taking as rule;
 ghost use Rattle.series.specs.Taking.{toldAnswer, after};
 ghost use Rattle.series.specs.Deciding.{allWith, toldStep, stepAt, anyKeyOf, answerOf, Room, Whole, fronted, emptied, Holds, Seated, Makes, Fitting, takenWhereFit};
@@ -66,7 +64,7 @@ fn all_with(held: &[bool; PARTS], total: u8, number: u8) -> bool
 // What part `number` of `total` does to the series x in slot i: 7 comes before 8. A part that is held is compared by its octets.
 fn decide(x: Slot, i: usize, total: u8, number: usize, cells: &[u8], part: &[u8]) -> Step
     requires { ⌜ Place i number ⌝ }
-    requires { ⌜ Short (x .lengths) × (x .total ≤ mostParts) ⌝ }
+    requires { ⌜ x .total ≤ mostParts ⌝ }
     requires { ⌜ Reaches i (now cells) ⌝ }
     ensures { λ r. ⌜ toldStep i x r ≡ stepAt (now (cells .entry)) total number (now (part .entry)) i x ⌝ }
 {
@@ -167,7 +165,17 @@ fn finish<'a>(
     ensures { λ _. ⌜ now (out .exit) ≡ outputWith (packetIn kind paged (x .total) (joinedOctets (now (cells .entry)) x i number (now (part .entry)))) (now (out .entry)) ⌝ }
 {
     let total = octets::wide(x.total);
-    let size = packets::hand_out(kind, paged, cells, &x.lengths, total, i, number, part, out);
+    let size = cells::packets::hand_out(
+        kind,
+        paged,
+        cells,
+        &x.lengths,
+        total,
+        i,
+        number,
+        part,
+        out,
+    );
     Change {
         answer: handed(size),
         moves: true,

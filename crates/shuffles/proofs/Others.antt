@@ -30,7 +30,7 @@ use Rattle.slots.specs.RankLaws.{pos-taken}
 use Rattle.slots.specs.FrontLaws.{same-key, key-same, FoundIn, hit-in, miss-in, find-in?}
 use Rattle.formed.specs.Formed.{allZero, usedFormed, slotFormed, keysDiffer, ranked, countsFollow, slotsFormed}
 use Rattle.formed.specs.Laws.{Formed, array-holds}
-use Rattle.series.specs.Cells.{joined, cellPart, joinedOctets}
+use Rattle.cells.specs.Cells.{joined, cellPart, joinedOctets}
 use Rattle.series.specs.CaseLaws.{Bears, Lacks}
 use Rattle.series.specs.Taking.{After, Answer, kept, heldAlready, packet, step, takePart, takeMessage}
 use Rattle.series.specs.Calls.{read}

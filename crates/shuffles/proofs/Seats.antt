@@ -29,8 +29,8 @@ use Rattle.slots.specs.RankLaws.{pos-taken, last-rank}
 use Rattle.slots.specs.FrontLaws.{front-here, same-key, key-same, FoundIn, hit-in, miss-in, find-in?}
 use Rattle.formed.specs.Formed.{markAt}
 use Rattle.formed.specs.Laws.{Formed, slot-tells, array-holds}
-use Rattle.series.specs.Cells.{cellOctets, cellAt, cellPart, joinedOctets}
-use Rattle.series.specs.CellLaws.{cell-inside, cell-here, cell-there}
+use Rattle.cells.specs.Cells.{cellOctets, cellAt, cellPart, joinedOctets}
+use Rattle.cells.specs.CellLaws.{cell-inside, cell-here, cell-there}
 use Rattle.series.specs.CaseLaws.{Bears}
 use Rattle.series.specs.PartLaws.{total-bounds, ready-opened}
 use Rattle.series.specs.KeepLaws.{short, part-sound, taken-kind}

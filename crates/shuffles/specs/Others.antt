@@ -15,7 +15,7 @@ use Rattle.types.specs.declared.Slot.{Slot}
 use Rattle.arrival.specs.Arrivals.{Brought, single, part}
 use Rattle.arrival.specs.Message.{mostParts}
 use Rattle.slots.specs.Slots.{slotAt, sameKey, bears, findIn, heldAt}
-use Rattle.series.specs.Cells.{cellPart}
+use Rattle.cells.specs.Cells.{cellPart}
 use Rattle.series.specs.Taking.{After, Answer, kept, packet}
 use Rattle.series.specs.Calls.{read}
 use Rattle.sequences.specs.Examples.{M}

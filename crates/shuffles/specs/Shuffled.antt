@@ -12,7 +12,7 @@ use Rattle.types.specs.Refusals as reading
 use Rattle.types.specs.declared.Key.{Key}
 use Rattle.arrival.specs.Arrivals.{part}
 use Rattle.formed.specs.Formed.{recordFormed}
-use Rattle.series.specs.Cells.{cellsSize}
+use Rattle.cells.specs.Cells.{cellsSize}
 use Rattle.series.specs.Taking.{Answer, kept, heldAlready, packet, refusedBy, after}
 use Rattle.series.specs.Calls.{read, octetsOf}
 use Rattle.sequences.specs.Lists.{elem}

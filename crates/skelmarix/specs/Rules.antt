@@ -3,7 +3,7 @@
 -- table of outstanding commands, what its two calls come to, and what salvaging comes to.
 pub use Rattle.octets.specs.Octets.{numberOf}
 pub use Rattle.packet.specs.Packets.{mostOctets}
-pub use Rattle.series.specs.Cells.{cellsSize}
+pub use Rattle.cells.specs.Cells.{cellsSize}
 pub use Rattle.slots.specs.Slots.{mostSlots, defaultSlots, isSlotNumber, slotAt, freshRecord, withSlots, Beside, beside, toldMaking, making}
 pub use Rattle.series.specs.Taking.{State, state, Answer, After, after, toldAnswer}
 unfoldable pub use Rattle.series.specs.Taking.{takeMessage, takePage}

@@ -16,7 +16,7 @@ use Rattle.packet.specs.Told.{responseFields}
 use Rattle.arrival.specs.Arrivals.{single}
 use Rattle.arrival.specs.Message.{mostUserData, readMessage}
 use Rattle.arrival.specs.Keys.{referenceFits}
-use Rattle.series.specs.Cells.{cellsSize}
+use Rattle.cells.specs.Cells.{cellsSize}
 use Rattle.series.specs.Taking.{packet, after}
 use Rattle.series.specs.Calls.{message}
 use Rattle.split.specs.Splitting as split

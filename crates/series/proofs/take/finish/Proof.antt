@@ -6,5 +6,5 @@ use Rattle.series.proofs.take.finish.Tie as tie
 pub finish-spec : {M : Type 1} → statement M
 finish-spec =
     tie.close
-    (tie.spec (λ c κs. search actSteps) (λ c κs. (search actSteps, (search actSteps, (search actSteps, search actSteps))))
+    (tie.spec (λ c κs. search actSteps) (λ c κs. search actSteps)
     (λ c κs. search actSteps) (λ c κs. search actSteps) (λ c. search actSteps) (λ c. ((search actSteps, search actSteps), search actSteps)))

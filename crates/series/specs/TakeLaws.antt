@@ -1,16 +1,16 @@
 -- What taking may rely on: a sound record and an admitted part give it room, a series that is there joins to no more than the output holds,
 -- and what reading gives fits.
-use Prim.Native.Nat.{ℕ, _≤_, _<_}
+use Prim.Native.Nat.{ℕ, zero, suc, _+_, _-_, _≤_, _<_}
 use mathlib.Core.Path.{_≡_, refl, sym}
-use mathlib.Core.Bool.{Bool, true, false, not, _||_}
+use mathlib.Core.Bool.{Bool, true, false, not, cond, _&&_, _||_}
 use mathlib.Core.List.{List}
 use mathlib.Core.Option.{Option, some}
 use native.Mathlib.Omega.{arith}
 use mir.Syntax.{w8}
 use mir.Val.{Fits}
 use lib.ListN.{length, getD, List·getD-eq-default}
-use lib.Dec.{eqb, ltb}
-use borrow.Author.Tests.{ltb-true, ltb-false, le-ltb, eqb-true, not-false}
+use lib.Dec.{eqb, ltb, leb}
+use borrow.Author.Tests.{ltb-true, ltb-false, le-ltb, leb-true, eqb-true, not-false}
 use Rattle.octets.specs.Tests.{both, neither}
 use Rattle.types.specs.declared.Kind.{Kind}
 use Rattle.packet.specs.Packets.{mostOctets}
@@ -18,24 +18,71 @@ use Rattle.types.specs.declared.Key.{Key}
 use Rattle.types.specs.declared.Arrival.{Arrival}
 use Rattle.types.specs.declared.Arrival.the-variants.{Single, Part, Refused}
 use Rattle.arrival.specs.Arrivals.{toldArrival}
-use Rattle.arrival.specs.Message.{readMessage}
-use Rattle.arrival.specs.Page.{readPage}
+use Rattle.arrival.specs.Message.{mostParts, readMessage}
+use Rattle.arrival.specs.Page.{pageContent, readPage}
+use Rattle.arrival.specs.Keys.{ofPages, lengthFits}
 use Rattle.arrival.specs.Laws.{Admitted, message-part, message-single, page-part, page-single}
 use Rattle.types.specs.declared.Slot.{Slot}
 use Rattle.types.specs.declared.Record.{Record}
 use Rattle.slots.specs.BelowLaws.{count-at-most}
 use Rattle.slots.specs.Slots.{mostSlots, slotAt, used, sameKey, bears, findIn, slotsIn}
 use Rattle.slots.specs.Found.{seatOf, seat-inside}
-use Rattle.formed.specs.Formed.{slotsFormed, recordFormed}
+use Rattle.formed.specs.Formed.{markAt, sizeAt, partFormed, slotsFormed, recordFormed}
 use Rattle.slots.specs.RankLaws.{pos-taken, rank-bound}
 use Rattle.slots.specs.FrontLaws.{FoundIn, hit-in, miss-in, find-in?}
 use Rattle.formed.specs.Laws.{UsedSlot, array-holds, formed-tells, slot-tells}
 use Rattle.series.specs.PartLaws.{total-bounds}
-use Rattle.series.specs.Cells.{cellsSize}
+use Rattle.cells.specs.Cells.{cellOctets, cellsSize}
+use Rattle.cells.specs.Handing.{pieceOf, seriesOctets}
+use Rattle.cells.specs.CellLaws.{piece-length, joined-none, joined-length, joined-pieces}
 use Rattle.series.specs.Taking.{state, unfit}
 use Rattle.series.specs.KeepLaws.{Sound, short}
 use Rattle.series.specs.Deciding.{Room, Whole, Fitting}
-use Rattle.series.proofs.CellLaws.{formed-short, joined-fits, joined-pieces}
+
+-- ---- the lengths that a well-formed record allows
+-- how many octets of its cell a part can fill: part 1 two fewer
+abbrev most : ℕ → ℕ
+most k = cellOctets - cond (eqb k 1) 2 0
+
+most-cell : (k : ℕ) → most k ≤ cellOctets
+most-cell k = omega arith
+
+fits-most : (x : Key) (k n : ℕ) → lengthFits x k n ≡ true → n ≤ most k
+unfolding lengthFits
+fits-most x k n = go (ofPages x) (eqb (x .width) 16) (eqb k 1)
+  where
+    go : (p w f : Bool) → cond p (eqb n pageContent) (leb n (cond w 133 134 - cond f 2 0)) ≡ true → n ≤ cellOctets - cond f 2 0
+    go true w true e = omega (arith, eqb-true n pageContent e)
+    go true w false e = omega (arith, eqb-true n pageContent e)
+    go false true f e = omega (arith, leb-true n (133 - cond f 2 0) e)
+    go false false f e = leb-true n (134 - cond f 2 0) e
+
+part-most : (x : Slot) (i : ℕ) → partFormed x i ≡ true → sizeAt x i ≤ most (i + 1)
+part-most x i = go (markAt x i)
+  where
+    go : (b : Bool) → cond b (ltb i (x .total) && lengthFits (x .key) (i + 1) (sizeAt x i)) (eqb (sizeAt x i) 0) ≡ true
+        → sizeAt x i ≤ most (i + 1)
+    go true e = fits-most (x .key) (i + 1) (sizeAt x i) (both (ltb i (x .total)) (lengthFits (x .key) (i + 1) (sizeAt x i)) e .1)
+    go false e = omega (arith, eqb-true (sizeAt x i) 0 e)
+
+module _ (x : Slot) (formed : (i : ℕ) → i < mostParts → partFormed x i ≡ true) where
+  -- "Packet: at most 2,142 octets": with a part that fits its place, no more octets join
+  pub joined-fits : (key : Key) (cells : List ℕ) (s number : ℕ) (part : List ℕ) (total : ℕ) → lengthFits key number (length part) ≡ true
+      → total ≤ mostParts → length (seriesOctets cells (x .lengths) total s number part) ≤ mostOctets
+  joined-fits key cells s number part zero fits l = rw (joined-none (pieceOf cells (x .lengths) s number part)) (omega arith)
+  joined-fits key cells s number part (suc n) fits l =
+      omega (
+        arith,
+        joined-length (pieceOf cells (x .lengths) s number part) cellOctets 2 n
+            (omega (arith, each 1 (omega arith) (omega arith)))
+            (λ k u v. omega (arith, each k u (omega arith), most-cell k)),
+      )
+    where
+      each : (k : ℕ) → 0 < k → k ≤ mostParts → length (pieceOf cells (x .lengths) s number part k) ≤ most k
+      each k u v =
+          piece-length cells (x .lengths) s number part k (most k)
+          (λ e. rw e (fits-most key number (length part) fits))
+          (let e : k - 1 + 1 ≡ k = omega arith in rw e at (part-most x (k - 1) (formed (k - 1) (omega arith))))
 
 -- ---- a sound record
 -- a slot that a search found passes its test
@@ -100,7 +147,7 @@ module _ (r : Record) (cells : List ℕ) (w : Sound (r .count) r cells) where
       whole-at output size =
           let x : Slot = slotAt (r .slots) i in
           let (least, most) = total-bounds (x .key) (x .total) (was-used .total) in record {
-            lengths = formed-short x (was-used .parts);
+            lengths = was-used .lengths;
             some = omega arith;
             most = most;
             joined = rw (← joined-pieces cells x i number octets, size) (joined-fits x (was-used .parts) key cells i number octets (x .total) (adm .lengthFits) most);

@@ -1,7 +1,7 @@
 -- `put_up_to` meets its contract: what is left up to the limit fits into out, so `put` places it. Assumes nothing.
-use Rattle.series.proofs.CellSteps.{joinSteps}
-use Rattle.series.proofs.packets.put_up_to.Statement.{statement}
-use Rattle.series.proofs.packets.put_up_to.Tie as tie
+use Rattle.cells.proofs.Steps.{joinSteps}
+use Rattle.cells.proofs.packets.put_up_to.Statement.{statement}
+use Rattle.cells.proofs.packets.put_up_to.Tie as tie
 
 sub-up-to : tie.Need-sub-up-to
 sub-up-to c = search joinSteps

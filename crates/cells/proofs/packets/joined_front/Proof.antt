@@ -4,11 +4,11 @@ use Prim.Native.Nat.{_≤_, _-_}
 use mathlib.Core.Path.{_≡_}
 use native.Mathlib.Omega.{arith}
 use Rattle.joined.specs.Fronts.{frontOf}
-use Rattle.series.specs.Cells.{joined}
-use Rattle.series.specs.Handing.{pieceOf}
-use Rattle.series.proofs.CellSteps.{frontSteps}
-use Rattle.series.proofs.packets.joined_front.Statement.{statement}
-use Rattle.series.proofs.packets.joined_front.Tie as tie
+use Rattle.cells.specs.Cells.{joined}
+use Rattle.cells.specs.Handing.{pieceOf}
+use Rattle.cells.proofs.Steps.{frontSteps}
+use Rattle.cells.proofs.packets.joined_front.Statement.{statement}
+use Rattle.cells.proofs.packets.joined_front.Tie as tie
 
 abbrev Inv-loop : tie.InvT-loop
 Inv-loop cells lengths total s number part f₀ k₀ f k =

@@ -3,11 +3,11 @@
 use Prim.Native.Nat.{_≤_, _-_}
 use mathlib.Core.Path.{_≡_}
 use lib.ListN.{length}
-use Rattle.series.specs.Handing.{pieceOf}
-use Rattle.series.proofs.CellLaws.{Written}
-use Rattle.series.proofs.CellSteps.{joinSteps}
-use Rattle.series.proofs.packets.join.Statement.{statement}
-use Rattle.series.proofs.packets.join.Tie as tie
+use Rattle.cells.specs.Handing.{pieceOf}
+use Rattle.cells.proofs.Laws.{Written}
+use Rattle.cells.proofs.Steps.{joinSteps}
+use Rattle.cells.proofs.packets.join.Statement.{statement}
+use Rattle.cells.proofs.packets.join.Tie as tie
 
 abbrev Inv-loop : tie.InvT-loop
 Inv-loop cells lengths total s number part limit out₀ at₀ k₀ out at k =

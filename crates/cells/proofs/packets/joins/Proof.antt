@@ -1,0 +1,13 @@
+-- `joins` meets its contract: its flags are those of the rule, in the rule's order. Assumes nothing.
+use Rattle.cells.proofs.Steps.{handSteps}
+use Rattle.cells.proofs.packets.joins.Statement.{statement}
+use Rattle.cells.proofs.packets.joins.Tie as tie
+
+reaches-requires : tie.Need-reaches-requires
+reaches-requires c κs = search handSteps
+
+returns : tie.Need-returns
+returns c = search handSteps
+
+pub joins-spec : {M : Type 1} → statement M
+joins-spec = tie.close (tie.spec reaches-requires returns)
