@@ -46,68 +46,15 @@ use Rattle.series.specs.Taking.{State, Answer, After, toldAnswer, kept, 
 use Rattle.series.specs.KeepLaws.{Sound}
 use Rattle.series.specs.Deciding.{allWith, hasWith, toldStep, stepAt, anyKeyOf, answerOf, Room, Whole, fronted, emptied, changed, Holds, Seated, Makes, Fitting, takenWhereFit}
 use Rattle.cells.specs.CellLaws.{cell-part, joined-pieces, store-in, same-in, packet-of}
+use Rattle.series.specs.StepLaws.{part-lacks, none-lacks, other-total, held-same, held-other, new-last, new-more, finish-total, answer-packet, answer-none, single-answer, single-output, whole-answer, whole-output, handed-out, of-key, acted-by, part-stored, seat-more, seat-opens}
 use Rattle.series.specs.TakeLaws as law
 use Rattle.series.specs.TakeLaws.{message-fitting, page-fitting}
-
--- ---- deciding
-module _ (held : List Bool) (t number : ℕ) where
-  pub part-lacks : (i : ℕ) → (ltb i t && not (eqb (i + 1) number || getD held i false)) ≡ not (hasWith held t number i)
-  part-lacks i = go (ltb i t) (eqb (i + 1) number || getD held i false)
-    where
-      go : (a b : Bool) → (a && not b) ≡ not (not a || b)
-      go true b = refl
-      go false b = refl
-
-  pub none-lacks : (b : Bool) → t ≤ mostParts → b ≡ allBelow mostParts (hasWith held t number) → b ≡ allWith held t number
-  none-lacks b l e = e ∙ all-up-to mostParts t (λ i. eqb (i + 1) number || getD held i false) l
-
-module _ (cells : List ℕ) (total number : ℕ) (octets : List ℕ) (i : ℕ) (x : Slot) where
-  pub other-total : (x .total ≡ total → ⊥) → refuses 7 ≡ stepAt cells total number octets i x
-  other-total ne = rw (ne-eqb (x .total) total ne)
-
-  module _ (is : x .total ≡ total) where
-    module _ (held : heldAt x number ≡ true) (place : Place i number) (size : Reaches i cells) (b : Bool)
-        (same : b ≡ (hasCell (length cells) i number && sameOctets (cellStart cells i number (lengthAt x number)) octets)) where
-      compared : b ≡ sameOctets (cellPart cells x i number) octets
-      compared = same ∙ same-in i number place cells size (lengthAt x number) octets ∙ rw (cell-part cells x i number)
-
-      pub held-same : b ≡ true → repeats i ≡ stepAt cells total number octets i x
-      held-same e = rw (eq-eqb (x .total) total is, held, ← compared, e)
-
-      pub held-other : b ≡ false → refuses 8 ≡ stepAt cells total number octets i x
-      held-other e = rw (eq-eqb (x .total) total is, held, ← compared, e)
-
-    module _ (new : heldAt x number ≡ false) (b : Bool) (all : b ≡ allWith (x .held) total number) where
-      completed : b ≡ completes x number
-      completed = rw (all, is)
-
-      pub new-last : b ≡ true → finishes i ≡ stepAt cells total number octets i x
-      new-last e = rw (eq-eqb (x .total) total is, new, ← completed, e)
-
-      pub new-more : b ≡ false → keeps i false x ≡ stepAt cells total number octets i x
-      new-more e = rw (eq-eqb (x .total) total is, new, ← completed, e)
-
-  -- only a part of as many completes a series
-  finish-total : finishes i ≡ stepAt cells total number octets i x → x .total ≡ total
-  finish-total = go (eqb (x .total) total) refl
-    where
-      go : (b : Bool) → eqb (x .total) total ≡ b
-          → finishes i ≡ cond (not b) (refuses 7)
-          (cond (heldAt x number) (cond (sameOctets (cellPart cells x i number) octets) (repeats i) (refuses 8))
-          (cond (completes x number) (finishes i) (keeps i false x)))
-          → x .total ≡ total
-      go true e h = eqb-true (x .total) total e
-      go false e h = let z : _≡_ {A = ℕ} 0 1 = cc in absurd (omega arith)
 
 -- ---- acting
 pub part-kept : (i number : ℕ) (octets cells : List ℕ) (a : response.Answer) (n : ℕ) (x y : Slot) (c : Change) → Room i number octets cells
     → y ≡ withPartIn x number n → c ≡ fronted a i y → c ≡ fronted a i (withPart x number n)
 part-kept i number octets cells a n x y c room e h =
     h ∙ ap (fronted a i) (e ∙ with-part-in x number n (room .place .1) (room .place .2))
-
-pub part-stored : (i number : ℕ) (octets cells cells′ : List ℕ) → Room i number octets cells → cells′ ≡ afterStore cells i number octets
-    → cells′ ≡ placed cells (cellAt i number) octets
-part-stored i number octets cells cells′ room e = e ∙ store-in i number (room .place) cells (room .size) octets (room .short)
 
 pub slot-emptied : (a : response.Answer) (i : ℕ) (x : Slot) → x ≡ freeSlot
     → record { answer = a; moves = true; front = false; slot = i; entry = x } ≡ emptied a i
@@ -124,57 +71,6 @@ module _ (r : Record) (k : Kind) (i : ℕ) (y : Slot) (holds : Holds r k i y) (c
 
   comes-free : c ≡ emptied a i → changed r c ≡ withSlots r (freed (r .slots) i)
   comes-free e = rw e (freed-in r i (holds .inside) (holds .rest))
-
-module _ (z : Size) where
-  pub answer-packet : (n : ℕ) → z ≡ size.Octets n → packet n ≡ answerOf (toldSize z)
-  answer-packet n e = rw e
-
-  pub answer-none : z ≡ size.None → refusedBy 9 ≡ answerOf (toldSize z)
-  answer-none e = rw e
-
--- a single message or page, for which the output has room
-module _ (k : Kind) (paged : Bool) (octets output : List ℕ) (fits : length octets ≤ length output) where
-  pub single-answer : (z : Size) (a b : response.Answer) → toldSize z ≡ lengthIn (packetFor k paged octets (length output)) → a ≡ b
-      → toldAnswer b ≡ answerOf (toldSize z) → toldAnswer a ≡ answerOf (lengthIn (packetIn k paged 1 octets))
-  single-answer z a b e q h = rw (← packet-for k paged octets (length output) fits, ← e, q) h
-
-  pub single-output : (o : List ℕ) → o ≡ outputWith (packetFor k paged octets (length output)) output
-      → o ≡ outputWith (packetIn k paged 1 octets) output
-  single-output o e = rw (← packet-for k paged octets (length output) fits) e
-
--- the parts of a slot x with the one that arrives, where t is the total as a length
-module _ (x : Slot) (i number : ℕ) (octets cells output : List ℕ) (room : Room i number octets cells) (w : Whole x i number octets cells output)
-    (t : ℕ) (is : t ≡ x .total) (k : Kind) (paged : Bool) where
-  same-packet : packetOf k paged cells (x .lengths) t i number octets (length output) ≡ packetIn k paged (x .total) (joinedOctets cells x i number octets)
-  same-packet =
-      rw is (packet-of k paged cells (x .lengths) (x .total) i number octets (length output) (room .place .0) (room .size) (w .lengths) (w .most) (room .short)
-      (rw (joined-pieces cells x i number octets) (w .joined)) ∙ rw (joined-pieces cells x i number octets))
-
-  pub whole-answer : (z : Size) (a : Answer) → toldSize z ≡ lengthIn (packetOf k paged cells (x .lengths) t i number octets (length output))
-      → a ≡ answerOf (toldSize z) → a ≡ answerOf (lengthIn (packetIn k paged (x .total) (joinedOctets cells x i number octets)))
-  whole-answer z a e h = rw (← same-packet, ← e) h
-
-  pub whole-output : (o : List ℕ) → o ≡ outputWith (packetOf k paged cells (x .lengths) t i number octets (length output)) output
-      → o ≡ outputWith (packetIn k paged (x .total) (joinedOctets cells x i number octets)) output
-  whole-output o e = rw (← same-packet) e
-
--- an answer and an output that tell of a packet are what handing out comes to
-handed-out : (s : State) (r : Record) (a : Answer) (o : List ℕ) (p : Option (List ℕ)) → a ≡ answerOf (lengthIn p) → o ≡ outputWith p (s .output)
-    → after a r (s .cells) o ≡ handOut s r p
-handed-out s r a o none h e = rw (h, e)
-handed-out s r a o (some p) h e = rw (h, e)
-
-of-key : (paged : Bool) → ofPages (anyKeyOf paged) ≡ paged
-of-key true = refl
-of-key false = refl
-
--- what acting comes to, by whether the key is of pages
-acted-by : (n : ℕ) (s : State) (key : Key) (total number : ℕ) (octets : List ℕ) (st : Step)
-    → acted n s (anyKeyOf (ofPages key)) total number octets st ≡ acted n s key total number octets st
-acted-by n s key total number octets (refuses m) = refl
-acted-by n s key total number octets (repeats i) = refl
-acted-by n s key total number octets (keeps i d x) = refl
-acted-by n s key total number octets (finishes i) = rw (of-key (ofPages key))
 
 -- a part of the series x in slot i, where step z is due
 module _ (k : Kind) (cells output : List ℕ) (paged : Bool) (total number : ℕ) (octets : List ℕ) (i : ℕ) (x : Slot)
@@ -210,42 +106,21 @@ module _ (k : Kind) (key : Key) (o : Seat) (x : Slot) (cells output : List ℕ) 
   pub part-more : (i : ℕ) (output′ : List ℕ) → o .held ≡ true → i ≡ o .slot
       → Makes (λ r. Holds r k i x) c cells′ output′ (λ r. acted (slotsIn r) (state r cells output) (anyKeyOf (ofPages key)) total number octets (stepAt cells total number octets i x))
       → Makes (λ r. Seated r k key o x) c cells′ output′ partDue
-  unfolding takePart step
   part-more i output′ h is makes r seated =
-      rw (seat-found (slotsIn r) (r .slots) key o (seated .seat) h, seated .holds .entry)
-      (makes r (rw is (seated .holds)) ∙ rw is (acted-by (slotsIn r) (state r cells output) key total number octets (stepAt cells total number octets (o .slot) x)))
-
-  opens-at : (r : Record) (q : Option ℕ) → let p : Seat = newSeatIn (slotsIn r) (r .slots) q in
-      after (kept (p .slot) (p .displaced)) (withSlots r (toFront (r .slots) (p .slot) (withPart (opened key total) number (length octets))))
-      (placed cells (cellAt (p .slot) number) octets) output
-      ≡ acted (slotsIn r) (state r cells output) key total number octets (stepNew (slotsIn r) (state r cells output) key total number octets q)
-  opens-at r (some i) = refl
-  opens-at r none = refl
+      seat-more r k key o x cells output total number octets seated h i is (after (toldAnswer (c .answer)) (changed r c) cells′ output′) (makes r (rw is (seated .holds)))
 
   pub part-opens : (i : ℕ) (y : Slot) → o .held ≡ false → i ≡ o .slot → y ≡ opened key total
       → c ≡ fronted (answer.Kept i (o .displaced)) i (withPart y number (length octets)) → cells′ ≡ placed cells (cellAt i number) octets
       → Makes (λ r. Seated r k key o x) c cells′ output partDue
-  unfolding takePart step
   part-opens i y h is e f g r seated =
-      let (none-found, new) = seat-not-found (slotsIn r) (r .slots) key o (seated .seat) h in
-      rw (comes-front r k i x (rw is (seated .holds)) c (answer.Kept i (o .displaced)) (withPart y number (length octets)) f, f, g, e, is, none-found)
-      (rw new (opens-at r (findIn (slotsIn r) isFree (r .slots))))
+      let front = comes-front r k i x (rw is (seated .holds)) c (answer.Kept i (o .displaced)) (withPart y number (length octets)) f in
+      rw (front, f, e, is) (seat-opens r k key o x cells output total number octets seated h cells′ (rw is at g))
 
   -- of the record that the code has
   pub part-done : (r : Record) (output′ : List ℕ) → Makes (λ r. Seated r k key o x) c cells′ output′ partDue → r .kind ≡ k
       → o ≡ seatOf (slotsIn r) (r .slots) key → slotAt (r .slots) (o .slot) ≡ x → Sound (r .count) r cells
       → after (toldAnswer (c .answer)) (changed r c) cells′ output′ ≡ partDue r
-  part-done r output′ makes kind seat entry w =
-      makes r (record {
-        seat = seat;
-        holds = record {
-          kind = kind;
-          inside = rw seat (law.seat-own r cells w key);
-          rest = law.rest-free r cells w;
-          entry = entry;
-          ranks = law.ranks-low r cells w;
-        };
-      })
+  part-done r output′ makes kind seat entry w = makes r (rw (← kind, ← entry) (law.seated r cells w key o seat))
 
 -- ---- what reading gave
 pub unfit-told : (r : Record) (cells out : ℕ) (b : Bool) → b ≡ recordFormed (r .count) r

@@ -5,3 +5,4 @@ pub mod KeepLaws
 pub mod Calls
 pub mod Deciding
 pub mod TakeLaws
+pub mod StepLaws

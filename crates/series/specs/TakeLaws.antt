@@ -24,6 +24,7 @@ use Rattle.arrival.specs.Keys.{ofPages, lengthFits}
 use Rattle.arrival.specs.Laws.{Admitted, message-part, message-single, page-part, page-single}
 use Rattle.types.specs.declared.Slot.{Slot}
 use Rattle.types.specs.declared.Record.{Record}
+use Rattle.slots.specs.declared.find.Seat.{Seat}
 use Rattle.slots.specs.BelowLaws.{count-at-most}
 use Rattle.slots.specs.Slots.{mostSlots, slotAt, used, sameKey, bears, findIn, slotsIn}
 use Rattle.slots.specs.Found.{seatOf, seat-inside}
@@ -37,7 +38,7 @@ use Rattle.cells.specs.Handing.{pieceOf, seriesOctets}
 use Rattle.cells.specs.CellLaws.{piece-length, joined-none, joined-length, joined-pieces}
 use Rattle.series.specs.Taking.{state, unfit}
 use Rattle.series.specs.KeepLaws.{Sound, short}
-use Rattle.series.specs.Deciding.{Room, Whole, Fitting}
+use Rattle.series.specs.Deciding.{Room, Whole, Seated, Fitting}
 
 -- ---- the lengths that a well-formed record allows
 -- how many octets of its cell a part can fill: part 1 two fewer
@@ -122,6 +123,12 @@ module _ (r : Record) (cells : List ℕ) (w : Sound (r .count) r cells) where
   -- the seat of a key is one of the slots
   pub seat-own : (key : Key) → seatOf (slotsIn r) (r .slots) key .slot < slotsIn r
   seat-own key = seat-inside (slotsIn r) (r .slots) key (omega (arith, own-number, w .formed .low)) (omega (arith, own-number, enough))
+
+  pub seated : (key : Key) (o : Seat) → o ≡ seatOf (slotsIn r) (r .slots) key → Seated r (r .kind) key o (slotAt (r .slots) (o .slot))
+  seated key o seat = record {
+    seat = seat;
+    holds = record { kind = refl; inside = rw seat (seat-own key); rest = rest-free; entry = refl; ranks = ranks-low };
+  }
 
   module _ (key : Key) (total number : ℕ) (octets : List ℕ) (adm : Admitted (r .kind) key total number octets) where
     pub room-at : (i : ℕ) → i < slotsIn r → Room i number octets cells

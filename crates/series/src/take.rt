@@ -36,7 +36,7 @@ ghost use Rattle.series.specs.Taking.{toldAnswer, after};
 ghost use Rattle.series.specs.Deciding.{allWith, toldStep, stepAt, anyKeyOf, answerOf, Room, Whole, fronted, emptied, Holds, Seated, Makes, Fitting, takenWhereFit};
 
 // What a part of a series that is there does.
-pub(crate) enum Step {
+pub enum Step {
     Refuses(Refusal),
     Repeats,
     Keeps,
@@ -139,7 +139,7 @@ fn keep(i: usize, displaced: bool, x: Slot, number: usize, part: &[u8], cells: &
 }
 
 // What is answered if a packet of that length was handed out, and if there was none.
-fn handed(size: Size) -> Answer
+pub fn handed(size: Size) -> Answer
     ensures { λ r. ⌜ toldAnswer r ≡ answerOf (toldSize size) ⌝ }
 {
     match size {
