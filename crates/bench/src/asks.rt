@@ -21,7 +21,7 @@ pub(crate) fn say<'a>(
         return lines::say_packet(l.row, octets, text, at);
     }
     let lent = made.bench.lent;
-    let row = shows::part_or(l, made.row);
+    let row = values::part::part_or(l, made.row);
     let row = lines::answer_row(l, octets, row, lent[2], buffer);
     answers::print(row, cells, output, buffer, text, at)
 }

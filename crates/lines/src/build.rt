@@ -6,8 +6,6 @@ use types::Written;
 use values::fields::cntr_of;
 use values::fields::octet;
 use values::fields::tar_of;
-use values::rows;
-use values::rows::Row;
 use words::table;
 ghost use Prim.Native.Nat.{_≤_};
 
@@ -70,21 +68,7 @@ fn ciphered_response(fields: &[u8], header: u64, out: &mut [u8]) -> Written {
     skelmarix::build_ciphered_response(tar_of(fields), narrow(header), opaque, out)
 }
 
-// Builds what a row says, with its number: where the data of a plain body begins, or the header length of a ciphered one.
-fn built(row: usize, n: u64, fields: &[u8], out: &mut [u8]) -> Written {
-    if (row == table::BUILD_COMMAND) | (row == table::WRITE_USSD) {
-        return plain_command(row == table::WRITE_USSD, fields, n as usize, out);
-    }
-    if (row == table::BUILD_CIPHERED_COMMAND) | (row == table::WRITE_CIPHERED_USSD) {
-        return ciphered_command(row == table::WRITE_CIPHERED_USSD, fields, n, out);
-    }
-    if row == table::BUILD_RESPONSE {
-        return plain_response(fields, n as usize, out);
-    }
-    ciphered_response(fields, n, out)
-}
-
-// Which word of a row has that number: behind a plain body's CHECK the data begins. A USSD string has a word more, its PFI.
+// Which word of a row has the number that building needs: behind a plain body's CHECK the data begins. A USSD string has a word more, its PFI.
 fn place(row: usize) -> usize
     ensures { λ r. ⌜ r ≤ 7 ⌝ }
 {
@@ -104,14 +88,19 @@ fn place(row: usize) -> usize
     }
 }
 
-// Builds what a line asks for.
-pub(crate) fn build(l: words::line::Line, fields: &[u8], out: &mut [u8]) -> Row {
+// Builds what a line asks for, with that number: where the data of a plain body begins, or the header length of a ciphered one.
+pub(crate) fn build(l: words::line::Line, fields: &[u8], out: &mut [u8]) -> Written {
     let values = l.values;
     let n = values[place(l.row)];
-    let name = if table::SUM_USSD < l.row {
-        rows::STRING
-    } else {
-        rows::PACKET
-    };
-    rows::written(name, built(l.row, n, fields, out))
+    let row = l.row;
+    if (row == table::BUILD_COMMAND) | (row == table::WRITE_USSD) {
+        return plain_command(row == table::WRITE_USSD, fields, n as usize, out);
+    }
+    if (row == table::BUILD_CIPHERED_COMMAND) | (row == table::WRITE_CIPHERED_USSD) {
+        return ciphered_command(row == table::WRITE_CIPHERED_USSD, fields, n, out);
+    }
+    if row == table::BUILD_RESPONSE {
+        return plain_response(fields, n as usize, out);
+    }
+    ciphered_response(fields, n, out)
 }

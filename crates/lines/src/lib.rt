@@ -9,6 +9,7 @@ pub use packets::say_packet;
 use types::CHECKSUM_OCTETS;
 use types::PACKET_OCTETS;
 use values::fields::octet;
+use values::rows;
 use values::rows::Row;
 use words::line::Line;
 use words::table;
@@ -69,21 +70,24 @@ pub fn fill(buffer: &mut [u8], x: u8)
     }
 }
 
+// What is built: a USSD string, or a packet.
+fn name_of(row: usize) -> u64 {
+    if table::SUM_USSD < row {
+        rows::STRING
+    } else {
+        rows::PACKET
+    }
+}
+
 // Makes what a line asks for at the start of what is lent of the buffer.
 fn made(l: Line, fields: &[u8], out: &mut [u8]) -> Row {
     if is_sum(l.row) {
-        return packets::sum(l.row, fields, out);
+        return rows::written(rows::OCTETS, packets::sum(l.row, fields, out));
     }
     if (l.row < table::BUILD_CIPHERED_RESPONSE + 1) | (table::SUM_USSD < l.row) {
-        return build::build(l, fields, out);
+        return rows::written(name_of(l.row), build::build(l, fields, out));
     }
     parts::write(l, fields, out)
-}
-
-// The same in a buffer of which so many octets are lent.
-fn make(l: Line, fields: &[u8], size: usize, buffer: &mut [u8]) -> Row {
-    let n = lent(size, right(l.row), buffer.len());
-    made(l, fields, &mut buffer[0..n])
 }
 
 // Whether a line writes to the buffer.
@@ -93,10 +97,12 @@ fn writes(row: usize) -> bool {
         | (table::SUM_USSD <= row)
 }
 
-// What a line answers, the packets' apart; `row` is what was made of it already. A line that fills fills the buffer too.
+// What a line answers, the packets' apart; `row` is what was made of it already, and of the buffer `size` octets are lent. A line that fills fills the
+// buffer too.
 pub fn answer_row(l: Line, fields: &[u8], row: Row, size: usize, buffer: &mut [u8]) -> Row {
     if writes(l.row) {
-        return make(l, fields, size, buffer);
+        let n = lent(size, right(l.row), buffer.len());
+        return made(l, fields, &mut buffer[0..n]);
     }
     if l.row == table::FILL {
         fill(buffer, octet(fields, 0));

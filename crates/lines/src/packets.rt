@@ -75,7 +75,8 @@ pub fn say_packet(row: usize, packet: &[u8], text: &mut [u8], at: usize) -> usiz
     say_response(row, packet, text, at)
 }
 
-fn summed(row: usize, packet: &[u8], out: &mut [u8]) -> types::Written {
+// The octets that a checksum covers.
+pub(crate) fn sum(row: usize, packet: &[u8], out: &mut [u8]) -> types::Written {
     if row == table::SUM_COMMAND {
         return skelmarix::command_checksum(packet, out);
     }
@@ -83,9 +84,4 @@ fn summed(row: usize, packet: &[u8], out: &mut [u8]) -> types::Written {
         return skelmarix::ussd_checksum(packet, out);
     }
     skelmarix::response_checksum(packet, row == table::SUM_CIPHERED, out)
-}
-
-// The octets that a checksum covers.
-pub(crate) fn sum(row: usize, packet: &[u8], out: &mut [u8]) -> Row {
-    rows::written(rows::OCTETS, summed(row, packet, out))
 }

@@ -52,13 +52,6 @@ fn write_message(response: bool, v: [u64; VALUES], packet: &[u8], out: &mut [u8]
     skelmarix::write_message(kind_of(response), width, reference, number, packet, out)
 }
 
-fn part(row: usize, v: [u64; VALUES], fields: &[u8], out: &mut [u8]) -> WrittenPart {
-    if row == table::WRITE_PAGE {
-        return write_page(narrow(v[3]), fields, out);
-    }
-    write_message(row == table::WRITE_RESPONSE, v, fields, out)
-}
-
 // ---- reports
 // The edition of a line on a report: its fourth word, or the present one if it is left out.
 fn edition_of(count: usize, n: u64) -> u32 {
@@ -83,5 +76,9 @@ pub(crate) fn write(l: Line, fields: &[u8], out: &mut [u8]) -> Row {
         let edition = edition_of(l.count, values[3]);
         return report(narrow(values[1]) as usize, edition, fields, out);
     }
-    rows::written_part(part(l.row, values, fields, out))
+    if l.row == table::WRITE_PAGE {
+        return rows::written_part(write_page(narrow(values[3]), fields, out));
+    }
+    let response = l.row == table::WRITE_RESPONSE;
+    rows::written_part(write_message(response, values, fields, out))
 }

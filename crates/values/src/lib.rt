@@ -1,7 +1,8 @@
 // Between a line's words and the library's types: the fields in a line's octets (`fields`, `slot`), what a line leaves of the tables of counters
-// and of outstanding commands (`counters`, `commands`), and the library's answers as rows of numbers (`rows`).
+// and of outstanding commands (`counters`, `commands`), and the library's answers as rows of numbers (`rows`, `part`).
 pub mod commands;
 pub mod counters;
 pub mod fields;
+pub mod part;
 pub mod rows;
 pub mod slot;
