@@ -12,8 +12,9 @@ use Rattle.types.specs.declared.Slot.{Slot}
 use Rattle.skelmarix.specs.Rules.{slotAt, withSlots}
 use Rattle.words.specs.declared.line.Line.{Line}
 use Rattle.words.specs.Line.{Gathered, gathered, silent, Reads}
+use Rattle.values.specs.Meaning.{meant}
 use Rattle.changes.specs.declared.Bench.{Bench}
-use Rattle.changes.specs.Kept.{held, withRecord, meant, rowChanges}
+use Rattle.changes.specs.Kept.{held, withRecord, rowChanges}
 use Rattle.bench.specs.declared.Heard.{Heard}
 use Rattle.bench.specs.Lines as rule
 use Rattle.bench.specs.Lines.{LineLeaves, SlotPut, ReadSo, Untouched}

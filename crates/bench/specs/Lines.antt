@@ -10,8 +10,9 @@ use Rattle.types.specs.declared.Slot.{Slot}
 use Rattle.skelmarix.specs.Rules.{withSlots}
 use Rattle.words.specs.declared.line.Line.{Line}
 use Rattle.words.specs.Line.{Gathered, lineRead, gathered, Apart, silent}
+use Rattle.values.specs.Meaning.{meant}
 use Rattle.changes.specs.declared.Bench.{Bench}
-use Rattle.changes.specs.Kept.{Held, held, withRecord, meant, rowChanges}
+use Rattle.changes.specs.Kept.{Held, held, withRecord, rowChanges}
 use Rattle.bench.specs.declared.Heard.{Heard}
 
 -- ---- what a line says

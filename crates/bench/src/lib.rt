@@ -77,7 +77,7 @@ fn read(line: &mut [u8]) -> Line
     let mut l = words::line::read(line);
     let octets = skelmarix::first_octets(line, l.end);
     let values = l.values;
-    l.understood = l.understood & changes::is_meant(l.row, l.count, first(values), octets);
+    l.understood = l.understood & values::meaning::is_meant(l.row, l.count, first(values), octets);
     l
 }
 

@@ -1,7 +1,7 @@
 -- What the proofs of `changes` cite: one law for each return, over plain variables.
 use Prim.Native.Nat.{ℕ, _-_, _%_, _≤_, _<_}
 use mathlib.Core.Path.{_≡_, refl, ap, _∙_}
-use mathlib.Core.Bool.{Bool, true, false, not, _&&_}
+use mathlib.Core.Bool.{Bool, true, false, _&&_}
 use mathlib.Core.List.{List, _++_}
 use native.Mathlib.Omega.{arith}
 use lib.ListN.{length, take, drop, getD, set, replicate}
@@ -13,15 +13,14 @@ use Rattle.types.specs.declared.Kind.the-variants.{Command}
 use Rattle.types.specs.declared.Record.{Record}
 use Rattle.types.specs.declared.Counters.{Counters}
 use Rattle.types.specs.declared.Outstanding.{Outstanding}
-use Rattle.types.specs.declared.Captured.{Captured}
-use Rattle.types.specs.declared.Captured.the-variants.{UserData, Page, Unsound}
 use Rattle.types.specs.declared.Refusal.{Refusal}
 use Rattle.types.specs.declared.Beating.{Beating}
 use Rattle.types.specs.declared.Making.{Making}
 use Rattle.types.specs.declared.Making.the-variants.{Fresh, Refused}
 use Rattle.types.specs.Refusals.{refused, gives}
-use Rattle.skelmarix.specs.Rules.{defaultSlots, isSlotNumber, cellsSize, Beside, beside, toldMaking, making, freshRecord, Answer, state, after, takeMessage, takePage, beaten, toldBeating, beat, noCounters, noCommands, recordIn}
+use Rattle.skelmarix.specs.Rules.{defaultSlots, isSlotNumber, cellsSize, Beside, beside, toldMaking, making, freshRecord, Answer, state, after, takeMessage, takePage, beaten, toldBeating, beat, noCounters, noCommands}
 use Rattle.values.specs.Fields.{kindBy, senderOf}
+use Rattle.values.specs.Meaning.{wayOf, ownAt, slotsAsked}
 use Rattle.values.specs.Tables.{countersBy, commandsAfter}
 use Rattle.lines.specs.Lent.{lentOf}
 use Rattle.changes.specs.declared.Bench.{Bench}
@@ -45,37 +44,6 @@ module _ (way at : ℕ) (octets own : List ℕ) (r q : Record) (a : Answer) (cel
   pub call-page : (way ≡ 1 → ⊥) → after a q cells′ output′ ≡ takePage (r .count) (state r cells output) own
       → after a q cells′ output′ ≡ rule.call way at octets (state r cells output)
   call-page f h = rw (ne-eqb way 1 f) (h ∙ rw g)
-
--- what a captured record is
-pub way-row : (row : ℕ) (octets : List ℕ) → (row ≡ 60 → ⊥) → row ≡ rule.wayOf row octets
-way-row row octets z = rw (ne-eqb row 60 z)
-
-module _ (row : ℕ) (octets own : List ℕ) where
-  module _ (x : Captured) (e : row ≡ 60) (f : own ≡ drop 4 octets) (g : x ≡ recordIn own) where
-    way-captured : rule.capturedWay row x ≡ rule.wayOf row octets
-    way-captured = rw (eq-eqb row 60 e, ← f, ← g)
-
-    pub way-message : (start : ℕ) → x ≡ UserData start → 1 ≡ rule.wayOf row octets
-    way-message start h = rw h at way-captured
-
-    pub way-page : (start : ℕ) → x ≡ Page start → 2 ≡ rule.wayOf row octets
-    way-page start h = rw h at way-captured
-
-    pub way-unsound : x ≡ Unsound → row ≡ rule.wayOf row octets
-    way-unsound h = rw h at way-captured
-
-pub own-captured : (row : ℕ) → row ≡ 60 → 8 ≡ rule.ownAt row
-own-captured row e = rw (eq-eqb row 60 e)
-
-pub own-message : (row : ℕ) → (row ≡ 60 → ⊥) → row ≡ 1 → 4 ≡ rule.ownAt row
-own-message row z e = rw (ne-eqb row 60 z, eq-eqb row 1 e)
-
-pub own-page : (row : ℕ) → (row ≡ 60 → ⊥) → (row ≡ 1 → ⊥) → 0 ≡ rule.ownAt row
-own-page row z y = rw (ne-eqb row 60 z, ne-eqb row 1 y)
-
-pub meant-told : (row count n way : ℕ) (octets : List ℕ) → way ≡ rule.wayOf row octets
-    → (not (eqb row 59 && ltb 1 count && ltb 7 n) && not (eqb way 60)) ≡ rule.meant row count n octets
-meant-told row count n way octets e = rw e
 
 -- what a call left of the octets lent, before the rest, is what the line leaves
 pub taken-told : (b b′ : Bench) (way at : ℕ) (octets cells output x y : List ℕ) (s n m : ℕ) (a : Answer) (r : Record)
@@ -117,15 +85,6 @@ module _ (k k′ : Kind) (n : ℕ) (b c : Bench) (cells output cells′ output�
             let z : answer-is (beside (toldMaking a) r) ≡ true = rw (told, t) in
             absurd (clash (answer-is (beside (toldMaking a) r)) z (rw e))
         by-number false t = rw t
-
-pub asked-five : (count n : ℕ) → count ≡ 0 → 5 ≡ rule.slotsAsked count n
-asked-five count n e = rw (eq-eqb count 0 e)
-
-pub asked-less : (count n : ℕ) → (count ≡ 0 → ⊥) → n < 255 → n ≡ rule.slotsAsked count n
-asked-less count n f l = rw (ne-eqb count 0 f) (omega arith)
-
-pub asked-most : (count n : ℕ) → (count ≡ 0 → ⊥) → 255 ≤ n → 255 ≡ rule.slotsAsked count n
-asked-most count n f l = rw (ne-eqb count 0 f) (omega arith)
 
 pub counted : (b c : Bench) (n : ℕ) (r : Record) → c ≡ rule.withRecord b r → r ≡ rule.withCount (b .«record») (n % 256)
     → c ≡ rule.withRecord b (rule.withCount (b .«record») (n % 256))
@@ -193,14 +152,14 @@ module _ (row count n : ℕ) (octets : List ℕ) (b x : Bench) where
 
 -- ---- by the row
 module _ (row count n : ℕ) (octets : List ℕ) (b c : Bench) (cells output cells′ output′ : List ℕ) where
-  pub changed-takes : (way at : ℕ) → way ≡ rule.wayOf row octets → at ≡ rule.ownAt row → way < 3
+  pub changed-takes : (way at : ℕ) → way ≡ wayOf row octets → at ≡ ownAt row → way < 3
       → held c cells′ output′ ≡ rule.heldTaken (held b cells output) (rule.call way at octets (rule.called (held b cells output)))
       → held c cells′ output′ ≡ rowChanges row count n octets (held b cells output)
   unfolding rowChanges
   changed-takes way at e f l h = rw (← e, lt-ltb way 3 l, ← f) h
 
-  module _ (way : ℕ) (is : way ≡ rule.wayOf row octets) (l : 3 ≤ way) where
-    pub changed-fresh : (m : ℕ) → row < 6 → m ≡ rule.slotsAsked count n
+  module _ (way : ℕ) (is : way ≡ wayOf row octets) (l : 3 ≤ way) where
+    pub changed-fresh : (m : ℕ) → row < 6 → m ≡ slotsAsked count n
         → held c cells′ output′ ≡ rule.freshMade (kindBy (eqb row 5)) m (held b cells output)
         → held c cells′ output′ ≡ rowChanges row count n octets (held b cells output)
     unfolding rowChanges
@@ -232,20 +191,9 @@ pub ruleset steps = (
   start-told,
   call-message,
   call-page,
-  way-row,
-  way-message,
-  way-page,
-  way-unsound,
-  own-captured,
-  own-message,
-  own-page,
-  meant-told,
   taken-told,
   fresh-made,
   fresh-refused,
-  asked-five,
-  asked-less,
-  asked-most,
   counted,
   counters-told,
   noted-counters,

@@ -1,19 +1,18 @@
 -- What is kept from line to line, and what a line that is understood leaves of it, by its row: record, cells and output are those of the library's
 -- rule for the call that the line asks for, and so are the tables of counters and of outstanding commands.
-use Prim.Native.Nat.{ℕ, _+_, _-_, _%_, min}
-use mathlib.Core.Bool.{Bool, false, true, not, cond, _&&_}
+use Prim.Native.Nat.{ℕ, _-_, _%_}
+use mathlib.Core.Bool.{false, true, cond, _&&_}
 use mathlib.Core.List.{List, [], _∷_, _++_}
 use lib.Dec.{eqb, ltb, leb}
 use lib.ListN.{length, take, drop, getD, set, replicate}
 use Rattle.types.specs.declared.Kind.{Kind}
 use Rattle.types.specs.declared.Kind.the-variants.{Command}
 use Rattle.types.specs.declared.Record.{Record}
-use Rattle.types.specs.declared.Captured.{Captured}
-use Rattle.types.specs.declared.Captured.the-variants.{UserData, Page, Unsound}
 use Rattle.types.specs.declared.Counters.{Counters}
 use Rattle.types.specs.declared.Outstanding.{Outstanding}
-use Rattle.skelmarix.specs.Rules.{mostOctets, cellsSize, defaultSlots, isSlotNumber, freshRecord, State, After, state, takeMessage, takePage, beat, noCounters, noCommands, recordHead, recordIn}
+use Rattle.skelmarix.specs.Rules.{mostOctets, cellsSize, defaultSlots, isSlotNumber, freshRecord, State, After, state, takeMessage, takePage, beat, noCounters, noCommands}
 use Rattle.values.specs.Fields.{kindBy, senderOf}
+use Rattle.values.specs.Meaning.{wayOf, ownAt, slotsAsked}
 use Rattle.values.specs.Tables.{countersBy, commandsAfter}
 use Rattle.lines.specs.Lent.{right, lentOf}
 use Rattle.changes.specs.declared.Bench.{Bench}
@@ -61,19 +60,7 @@ abbrev pub nowNumbered : Bench → Bench
 nowNumbered b = record { «record» = b .«record»; counters = b .counters; outstanding = b .outstanding; lent = b .lent; numbered = true }
 
 -- ---- what is held afterwards, by the line's row
--- row 1 `message SENDER UD`, row 2 `page PAGE`, row 60 `captured SENDER RECORD`: a message or a page, as the record of the capture is one
-abbrev pub capturedWay : ℕ → Captured → ℕ
-capturedWay row (UserData start) = 1
-capturedWay row (Page start) = 2
-capturedWay row Unsound = row
-
-abbrev pub wayOf : ℕ → List ℕ → ℕ
-wayOf row octets = cond (eqb row 60) (capturedWay row (recordIn (drop 4 octets))) row
-
--- its own octets stand behind the sender, and behind mark and head
-abbrev pub ownAt : ℕ → ℕ
-ownAt row = cond (eqb row 60) (4 + recordHead) (cond (eqb row 1) 4 0)
-
+-- row 1 `message SENDER UD`, row 2 `page PAGE`, row 60 `captured SENDER RECORD`: a message or a page is taken
 abbrev pub call : ℕ → ℕ → List ℕ → State → After
 call way at octets s =
     cond (eqb way 1) (takeMessage (s .rec .count) s (senderOf octets) (drop at octets)) (takePage (s .rec .count) s (drop at octets))
@@ -86,10 +73,6 @@ heldTaken h a =
 -- every octet of cells and output
 abbrev pub allFilled : Held → Bench → ℕ → Held
 allFilled h b x = held b (replicate (length (h .cells)) x) (replicate (length (h .output)) x)
-
--- a number of slots: five if the line has none, and the greatest that the call takes if it is greater
-abbrev pub slotsAsked : ℕ → ℕ → ℕ
-slotsAsked count value = cond (eqb count 0) defaultSlots (min value 255)
 
 -- a record that the library makes, and cells and output all 00; where it makes none, all stays as it is
 abbrev pub freshMade : Kind → ℕ → Held → Held
@@ -114,10 +97,6 @@ keptNotes row count n octets b =
     (cond (eqb row 56) (withRecord b (beat (b .«record» .count) (b .«record») (n % 256) .rec))
     (cond (leb 57 row && leb row 59) (withOutstanding b (commandsAfter row count n octets (b .outstanding)))
     (lentNoted row n b)))
-
--- the words of a line that was read can be meant: an entry of row 59 is one of eight, and the record of row 60 is sound by itself
-abbrev pub meant : ℕ → ℕ → ℕ → List ℕ → Bool
-meant row count n octets = not (eqb row 59 && ltb 1 count && ltb 7 n) && not (eqb (wayOf row octets) 60)
 
 -- and row 4 `fresh command N`, row 5 `fresh response N`, row 6 `fill HH`; the lines of other rows leave all as it is. n is the first number of the
 -- line, and count how many words there are behind the names.

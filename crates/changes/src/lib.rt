@@ -3,6 +3,7 @@
 mod notes;
 
 use types::Record;
+use values::meaning;
 use values::rows;
 use words::table;
 ghost use mathlib.Core.Path.{_≡_};
@@ -12,7 +13,7 @@ ghost use Rattle.skelmarix.specs.Rules.{cellsSize, state, after, toldAnswer};
 ghost use Rattle.values.specs.Fields.{kindBy};
 ghost use Rattle.lines.specs.Lent.{lentOf};
 ghost use Rattle.changes.specs.Kept as rule;
-ghost use Rattle.changes.specs.Kept.{atStart, held, called, heldTaken, wayOf, ownAt, meant, rowChanges, withRecord, slotsAsked, freshMade};
+ghost use Rattle.changes.specs.Kept.{atStart, held, called, heldTaken, rowChanges, withRecord, freshMade};
 
 // What is kept beside the buffers: the record, the tables of counters and of outstanding commands, how many octets of cells, output and buffer are
 // lent (`RIGHT` means the right number), and whether answers are numbered.
@@ -53,34 +54,6 @@ pub fn with_record(b: Bench, r: Record) -> Bench
 }
 
 // ---- taking
-// What a line takes: a message, 1, or a page, 2, as the kind of a captured record says. A line that takes nothing keeps its row, and so does one
-// whose record is not sound by itself.
-fn way_of(row: usize, octets: &[u8]) -> usize
-    ensures { λ r. ⌜ r ≡ wayOf row (now (octets .entry)) ⌝ }
-{
-    if row != table::CAPTURED {
-        return row;
-    }
-    match skelmarix::read_captured(skelmarix::own_octets(octets, 4)) {
-        types::Captured::UserData { start } => 1,
-        types::Captured::Page { start } => 2,
-        types::Captured::Unsound => row,
-    }
-}
-
-// Where the own octets of a captured record begin in its line: behind the sender, and behind mark and head.
-const CAPTURED_AT: usize = 4 + types::CAPTURE_HEAD;
-
-// Where the octets of the message or of the page begin.
-fn own_at(row: usize) -> usize
-    ensures { λ r. ⌜ r ≡ ownAt row ⌝ }
-{
-    if row == table::CAPTURED {
-        return CAPTURED_AT;
-    }
-    if row == table::MESSAGE { 4 } else { 0 }
-}
-
 // Takes a message or a page.
 fn call(
     way: usize,
@@ -147,16 +120,6 @@ fn fill_both(x: u8, cells: &mut [u8], output: &mut [u8])
 }
 
 // ---- a fresh record
-// The number of slots that a line asks for: five if it names none. The library takes an octet: a greater number is handed in as 255.
-fn slots_asked(count: usize, n: usize) -> u8
-    ensures { λ r. ⌜ r ≡ slotsAsked count n ⌝ }
-{
-    if count == 0 {
-        return types::SLOTS as u8;
-    }
-    if n < 255 { n as u8 } else { 255 }
-}
-
 // A fresh record, with cells and output all 00; what the library refuses to make changes nothing.
 fn fresh(response: bool, n: u8, b: Bench, cells: &mut [u8], output: &mut [u8]) -> Made
     ensures { λ r. ⌜ held (r .bench) (now (cells .exit)) (now (output .exit)) ≡ freshMade (kindBy response) n (held b (now (cells .entry)) (now (output .entry))) ⌝ }
@@ -180,15 +143,6 @@ fn fresh(response: bool, n: u8, b: Bench, cells: &mut [u8], output: &mut [u8]) -
 }
 
 // ---- by the row
-// Whether the words of a line that was read can be meant: an entry of the table of outstanding commands is one of eight, and the record of a capture
-// is sound by itself.
-pub fn is_meant(row: usize, count: usize, n: usize, octets: &[u8]) -> bool
-    ensures { λ r. ⌜ r ≡ meant row count n (now (octets .entry)) ⌝ }
-{
-    let way = way_of(row, octets);
-    !((row == table::OUTSTANDING) & (1 < count) & (7 < n)) & !(way == table::CAPTURED)
-}
-
 // Changes what is kept as the line's row says.
 pub fn change(
     row: usize,
@@ -201,12 +155,12 @@ pub fn change(
 ) -> Made
     ensures { λ r. ⌜ held (r .bench) (now (cells .exit)) (now (output .exit)) ≡ rowChanges row count n (now (octets .entry)) (held b (now (cells .entry)) (now (output .entry))) ⌝ }
 {
-    let way = way_of(row, octets);
+    let way = meaning::way_of(row, octets);
     if way < 3 {
-        return take(way, own_at(row), octets, b, cells, output);
+        return take(way, meaning::own_at(row), octets, b, cells, output);
     }
     if row < table::FILL {
-        let slots = slots_asked(count, n);
+        let slots = meaning::slots_asked(count, n);
         return fresh(row == table::FRESH_RESPONSE, slots, b, cells, output);
     }
     if row == table::FILL {

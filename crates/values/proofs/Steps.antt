@@ -1,10 +1,11 @@
 -- What the proofs of `values` cite: one law for each return, over plain variables.
-use Prim.Native.Nat.{ℕ, _+_, _*_, _%_, _≤_}
+use Prim.Native.Nat.{ℕ, _+_, _*_, _%_, _≤_, _<_}
 use mathlib.Core.Path.{_≡_, sym, ap, _∙_}
-use mathlib.Core.Bool.{cond}
+use mathlib.Core.Bool.{not, cond, _&&_}
 use mathlib.Core.List.{List}
 use lib.ListN.{length, drop, getD, set, List·getD-eq-default}
-use lib.Dec.{eqb}
+use native.Mathlib.Omega.{arith}
+use lib.Dec.{eqb, ltb}
 use borrow.Author.Needs.{needs}
 use borrow.Author.Tests.{eq-eqb, ne-eqb}
 use Rattle.types.specs.declared.Tar.{Tar}
@@ -16,8 +17,11 @@ use Rattle.types.specs.declared.SentCommand.{SentCommand}
 use Rattle.types.specs.declared.Outstanding.{Outstanding}
 use Rattle.types.specs.declared.Sending.{Sending}
 use Rattle.types.specs.declared.Closing.{Closing}
-use Rattle.skelmarix.specs.Rules.{numberOf, Assessed, assessed, toldJudgement, judgeCounter, sentCommand, Fate, Settled, settled, toldSending, toldClosing, commandSent, responseCame}
+use Rattle.types.specs.declared.Captured.{Captured}
+use Rattle.types.specs.declared.Captured.the-variants.{UserData, Page, Unsound}
+use Rattle.skelmarix.specs.Rules.{numberOf, Assessed, assessed, toldJudgement, judgeCounter, sentCommand, Fate, Settled, settled, toldSending, toldClosing, commandSent, responseCame, recordIn}
 use Rattle.values.specs.Fields.{senderOf, tarOf, cntrOf}
+use Rattle.values.specs.Meaning as meaning
 use Rattle.values.specs.Tables as rule
 
 -- ---- fields
@@ -93,8 +97,60 @@ module _ (row count n : ℕ) (octets : List ℕ) (t u : Outstanding) where
     pub after-written : (c : SentCommand) → (row ≡ 58 → ⊥) → c ≡ rule.commandOf octets → u ≡ rule.tableWritten count n c t → u ≡ rule.commandsAfter row count n octets t
     after-written c y e f = rw (ne-eqb row 57 z, ne-eqb row 58 y, ← e) f
 
+-- ---- what a line means
+-- what a captured record is
+pub way-row : (row : ℕ) (octets : List ℕ) → (row ≡ 60 → ⊥) → row ≡ meaning.wayOf row octets
+way-row row octets z = rw (ne-eqb row 60 z)
+
+module _ (row : ℕ) (octets own : List ℕ) where
+  module _ (x : Captured) (e : row ≡ 60) (f : own ≡ drop 4 octets) (g : x ≡ recordIn own) where
+    way-captured : meaning.capturedWay row x ≡ meaning.wayOf row octets
+    way-captured = rw (eq-eqb row 60 e, ← f, ← g)
+
+    pub way-message : (start : ℕ) → x ≡ UserData start → 1 ≡ meaning.wayOf row octets
+    way-message start h = rw h at way-captured
+
+    pub way-page : (start : ℕ) → x ≡ Page start → 2 ≡ meaning.wayOf row octets
+    way-page start h = rw h at way-captured
+
+    pub way-unsound : x ≡ Unsound → row ≡ meaning.wayOf row octets
+    way-unsound h = rw h at way-captured
+
+pub own-captured : (row : ℕ) → row ≡ 60 → 8 ≡ meaning.ownAt row
+own-captured row e = rw (eq-eqb row 60 e)
+
+pub own-message : (row : ℕ) → (row ≡ 60 → ⊥) → row ≡ 1 → 4 ≡ meaning.ownAt row
+own-message row z e = rw (ne-eqb row 60 z, eq-eqb row 1 e)
+
+pub own-page : (row : ℕ) → (row ≡ 60 → ⊥) → (row ≡ 1 → ⊥) → 0 ≡ meaning.ownAt row
+own-page row z y = rw (ne-eqb row 60 z, ne-eqb row 1 y)
+
+pub meant-told : (row count n way : ℕ) (octets : List ℕ) → way ≡ meaning.wayOf row octets
+    → (not (eqb row 59 && ltb 1 count && ltb 7 n) && not (eqb way 60)) ≡ meaning.meant row count n octets
+meant-told row count n way octets e = rw e
+
+pub asked-five : (count n : ℕ) → count ≡ 0 → 5 ≡ meaning.slotsAsked count n
+asked-five count n e = rw (eq-eqb count 0 e)
+
+pub asked-less : (count n : ℕ) → (count ≡ 0 → ⊥) → n < 255 → n ≡ meaning.slotsAsked count n
+asked-less count n f l = rw (ne-eqb count 0 f) (omega arith)
+
+pub asked-most : (count n : ℕ) → (count ≡ 0 → ⊥) → 255 ≤ n → 255 ≡ meaning.slotsAsked count n
+asked-most count n f l = rw (ne-eqb count 0 f) (omega arith)
+
 pub ruleset steps = (
   needs,
+  way-row,
+  way-message,
+  way-page,
+  way-unsound,
+  own-captured,
+  own-message,
+  own-page,
+  meant-told,
+  asked-five,
+  asked-less,
+  asked-most,
   no-octet,
   sender-told,
   tar-told,
