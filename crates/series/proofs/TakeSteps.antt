@@ -1,15 +1,13 @@
 -- What the proofs of taking search: one law for each return and call, over plain variables.
-use Prim.Native.Nat.{ℕ, _+_, _≤_, _<_}
-use mathlib.Core.Path.{_≡_, refl, sym, ap, _∙_}
-use mathlib.Core.Bool.{Bool, true, false, not, cond, _&&_, _||_}
+use Prim.Native.Nat.{ℕ, _≤_}
+use mathlib.Core.Path.{_≡_, sym, ap, _∙_}
+use mathlib.Core.Bool.{Bool, true, false, not, _||_}
 use mathlib.Core.List.{List}
-use mathlib.Core.Option.{Option, none, some}
 use native.Mathlib.Omega.{arith}
-use lib.ListN.{length, getD, drop}
-use lib.Dec.{eqb, ltb}
+use lib.ListN.{length, drop}
+use lib.Dec.{eqb}
 use borrow.Author.Needs.{needs}
-use borrow.Author.Tests.{eq-eqb, ne-eqb, eqb-true}
-use Rattle.octets.specs.Octets.{placed, sameOctets}
+use Rattle.octets.specs.Octets.{placed}
 use Rattle.types.specs.declared.Kind.{Kind}
 use Rattle.types.specs.declared.Refusal.{Refusal}
 use Rattle.types.specs.declared.Refusal.the-variants.{BufferOrRecord}
@@ -20,33 +18,27 @@ use Rattle.types.specs.declared.Answer.the-variants as answer
 use Rattle.types.specs.declared.Arrival.{Arrival}
 use Rattle.types.specs.declared.Arrival.the-variants as arrival
 use Rattle.arrival.specs.Arrivals.{toldArrival}
-use Rattle.arrival.specs.Message.{mostParts, readMessage}
+use Rattle.arrival.specs.Message.{readMessage}
 use Rattle.arrival.specs.Page.{readPage}
 use Rattle.arrival.specs.Keys.{ofPages}
 use Rattle.arrival.specs.Laws.{Admitted}
-use Rattle.joined.specs.Fronts.{packetIn, toldSize, lengthIn, outputWith, packetFor}
-use Rattle.joined.specs.Laws.{packet-for}
+use Rattle.joined.specs.Fronts.{packetIn, lengthIn, outputWith}
 use Rattle.types.specs.declared.Slot.{Slot}
 use Rattle.types.specs.declared.Record.{Record}
-use Rattle.joined.specs.declared.Size.{Size}
-use Rattle.joined.specs.declared.Size.the-variants as size
 use Rattle.slots.specs.declared.find.Seat.{Seat}
 use Rattle.series.specs.declared.take.Step as code
 use Rattle.series.specs.declared.take.Change.{Change}
 use Rattle.series.specs.declared.take.Step.the-variants.{Refuses, Repeats, Keeps, Finishes}
-use Rattle.slots.specs.Below.{allBelow}
-use Rattle.slots.specs.BelowLaws.{fault-from, fault-more, fault-through, all-up-to}
-use Rattle.slots.specs.Found.{newSeatIn, seatOf, seat-found, seat-not-found, withPartIn, with-part-in}
-use Rattle.slots.specs.Slots.{slotAt, isFree, findIn, opened, freeSlot, heldAt, lengthAt, withPart, atFront, toFront, freed, withSlots, slotsIn}
+use Rattle.slots.specs.BelowLaws.{fault-from, fault-more, fault-through}
+use Rattle.slots.specs.Found.{seatOf, seat-found, withPartIn, with-part-in}
+use Rattle.slots.specs.Slots.{slotAt, opened, freeSlot, withPart, atFront, toFront, freed, withSlots, slotsIn}
 use Rattle.slots.specs.Order.{replaced, front-in, freed-in}
 use Rattle.formed.specs.Formed.{recordFormed}
-use Rattle.cells.specs.Cells.{cellsSize, cellAt, cellPart, joinedOctets}
-use Rattle.cells.specs.Handing.{Place, Reaches, hasCell, cellStart, afterStore, seriesOctets, packetOf}
-use Rattle.series.specs.Taking.{State, Answer, After, toldAnswer, kept, packet, refusedBy, state, after, handOut, completes, Step, refuses, repeats, keeps, finishes, stepNew, step, acted, takePart, takeMessage, takePage}
+use Rattle.cells.specs.Cells.{cellsSize, cellAt, joinedOctets}
+use Rattle.series.specs.Taking.{Answer, After, toldAnswer, state, after, Step, acted, takePart, takeMessage, takePage}
 use Rattle.series.specs.KeepLaws.{Sound}
-use Rattle.series.specs.Deciding.{allWith, hasWith, toldStep, stepAt, anyKeyOf, answerOf, Room, Whole, fronted, emptied, changed, Holds, Seated, Makes, Fitting, takenWhereFit}
-use Rattle.cells.specs.CellLaws.{cell-part, joined-pieces, store-in, same-in, packet-of}
-use Rattle.series.specs.StepLaws.{part-lacks, none-lacks, other-total, held-same, held-other, new-last, new-more, finish-total, answer-packet, answer-none, single-answer, single-output, whole-answer, whole-output, handed-out, of-key, acted-by, part-stored, seat-more, seat-opens}
+use Rattle.series.specs.Deciding.{toldStep, stepAt, anyKeyOf, answerOf, Room, Whole, fronted, emptied, changed, Holds, Seated, Makes, Fitting, takenWhereFit}
+use Rattle.series.specs.StepLaws.{part-lacks, none-lacks, other-total, held-same, held-other, new-last, new-more, finish-total, answer-packet, answer-none, single-answer, single-output, whole-answer, whole-output, handed-out, of-key, part-stored, seat-more, seat-opens}
 use Rattle.series.specs.TakeLaws as law
 use Rattle.series.specs.TakeLaws.{message-fitting, page-fitting}
 

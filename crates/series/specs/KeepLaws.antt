@@ -18,7 +18,7 @@ use Rattle.arrival.specs.Laws.{Admitted}
 use Rattle.joined.specs.Fronts.{packetIn}
 use Rattle.types.specs.declared.Slot.{Slot}
 use Rattle.types.specs.declared.Record.{Record}
-use Rattle.slots.specs.Slots.{slotAt, opened, atFront, withPart, heldAt, freed, withSlots}
+use Rattle.slots.specs.Slots.{slotAt, opened, atFront, withPart, heldAt, toFront, freed, withSlots}
 use Rattle.formed.specs.Formed.{slotFormed}
 use Rattle.formed.specs.Laws.{Formed, UsedSlot, slot-tells, slot-front, front-formed, free-formed}
 use Rattle.series.specs.PartLaws.{total-bounds, ready-held, ready-opened, part-more}
@@ -122,20 +122,24 @@ module _ (n : ℕ) (s : State) (w : Sound n (s .rec) (s .cells)) where
   taken-sound paged o (reading.gives (single start)) adm = handed-sound n s (s .rec) (packetIn k paged 1 (drop start o)) w
   taken-sound paged o (reading.gives (part key total number start)) adm = part-sound key total number (drop start o) (adm key total number start refl)
 
--- ---- the kind of a record never changes
-handed-kind : (s : State) (r : Record) (o : Option (List ℕ)) → r .kind ≡ s .rec .kind → handOut s r o .state .rec .kind ≡ s .rec .kind
-handed-kind s r none e = e
-handed-kind s r (some p) e = e
+-- ---- whatever does not look at the slots of a record stays: its kind, and its number of slots
+module _ {A : Type 0} (g : Record → A) (apart : (r : Record) (xs : List Slot) → g (withSlots r xs) ≡ g r) where
+  handed-stays : (s : State) (r : Record) (o : Option (List ℕ)) → g r ≡ g (s .rec) → g (handOut s r o .state .rec) ≡ g (s .rec)
+  handed-stays s r none e = e
+  handed-stays s r (some p) e = e
 
-acted-kind : (n : ℕ) (s : State) (key : Key) (total number : ℕ) (octets : List ℕ) (st : Step) → acted n s key total number octets st .state .rec .kind ≡ s .rec .kind
-acted-kind n s key total number octets (refuses m) = refl
-acted-kind n s key total number octets (repeats i) = refl
-acted-kind n s key total number octets (keeps i d x) = refl
-acted-kind n s key total number octets (finishes i) =
-    handed-kind s (withSlots (s .rec) (freed (s .rec .slots) i)) (packetIn (s .rec .kind) (ofPages key) total (joinedOctets (s .cells) (slotAt (s .rec .slots) i) i number octets)) refl
+  acted-stays : (n : ℕ) (s : State) (key : Key) (total number : ℕ) (octets : List ℕ) (st : Step) → g (acted n s key total number octets st .state .rec) ≡ g (s .rec)
+  acted-stays n s key total number octets (refuses m) = refl
+  acted-stays n s key total number octets (repeats i) = apart (s .rec) (toFront (s .rec .slots) i (slotAt (s .rec .slots) i))
+  acted-stays n s key total number octets (keeps i d x) = apart (s .rec) (toFront (s .rec .slots) i (withPart x number (length octets)))
+  acted-stays n s key total number octets (finishes i) =
+      handed-stays s (withSlots (s .rec) (freed (s .rec .slots) i)) (packetIn (s .rec .kind) (ofPages key) total (joinedOctets (s .cells) (slotAt (s .rec .slots) i) i number octets)) (apart (s .rec) (freed (s .rec .slots) i))
+
+  pub taken-stays : (n : ℕ) (s : State) (paged : Bool) (o : List ℕ) (b : reading.Outcome Brought) → g (taken n s paged o b .state .rec) ≡ g (s .rec)
+  unfolding takePart
+  taken-stays n s paged o (reading.refused m) = refl
+  taken-stays n s paged o (reading.gives (single start)) = handed-stays s (s .rec) (packetIn (s .rec .kind) paged 1 (drop start o)) refl
+  taken-stays n s paged o (reading.gives (part key total number start)) = acted-stays n s key total number (drop start o) (step n s key total number (drop start o))
 
 pub taken-kind : (n : ℕ) (s : State) (paged : Bool) (o : List ℕ) (b : reading.Outcome Brought) → taken n s paged o b .state .rec .kind ≡ s .rec .kind
-unfolding takePart
-taken-kind n s paged o (reading.refused m) = refl
-taken-kind n s paged o (reading.gives (single start)) = handed-kind s (s .rec) (packetIn (s .rec .kind) paged 1 (drop start o)) refl
-taken-kind n s paged o (reading.gives (part key total number start)) = acted-kind n s key total number (drop start o) (step n s key total number (drop start o))
+taken-kind = taken-stays (λ r. r .kind) (λ r xs. refl)

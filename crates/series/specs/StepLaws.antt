@@ -1,28 +1,19 @@
 -- Laws of one step of taking, for every engine: which step is due, what acting on it comes to, and the packet that is handed out.
-use Prim.Native.Nat.{ℕ, _+_, _≤_, _<_}
-use mathlib.Core.Path.{_≡_, refl, sym, ap, _∙_}
+use Prim.Native.Nat.{ℕ, _+_, _≤_}
+use mathlib.Core.Path.{_≡_, refl, _∙_}
 use mathlib.Core.Bool.{Bool, true, false, not, cond, _&&_, _||_}
 use mathlib.Core.List.{List}
 use mathlib.Core.Option.{Option, none, some}
 use native.Mathlib.Omega.{arith}
-use lib.ListN.{length, getD, drop}
+use lib.ListN.{length, getD}
 use lib.Dec.{eqb, ltb}
 use borrow.Author.Tests.{eq-eqb, ne-eqb, eqb-true}
 use Rattle.octets.specs.Octets.{placed, sameOctets}
 use Rattle.types.specs.declared.Kind.{Kind}
-use Rattle.types.specs.declared.Refusal.{Refusal}
-use Rattle.types.specs.declared.Refusal.the-variants.{BufferOrRecord}
-use Rattle.packet.specs.Packets.{mostOctets}
 use Rattle.types.specs.declared.Key.{Key}
 use Rattle.types.specs.declared.Answer as response
-use Rattle.types.specs.declared.Answer.the-variants as answer
-use Rattle.types.specs.declared.Arrival.{Arrival}
-use Rattle.types.specs.declared.Arrival.the-variants as arrival
-use Rattle.arrival.specs.Arrivals.{toldArrival}
-use Rattle.arrival.specs.Message.{mostParts, readMessage}
-use Rattle.arrival.specs.Page.{readPage}
+use Rattle.arrival.specs.Message.{mostParts}
 use Rattle.arrival.specs.Keys.{ofPages}
-use Rattle.arrival.specs.Laws.{Admitted}
 use Rattle.joined.specs.Fronts.{packetIn, toldSize, lengthIn, outputWith, packetFor}
 use Rattle.joined.specs.Laws.{packet-for}
 use Rattle.types.specs.declared.Slot.{Slot}
@@ -30,20 +21,14 @@ use Rattle.types.specs.declared.Record.{Record}
 use Rattle.joined.specs.declared.Size.{Size}
 use Rattle.joined.specs.declared.Size.the-variants as size
 use Rattle.slots.specs.declared.find.Seat.{Seat}
-use Rattle.series.specs.declared.take.Step as code
-use Rattle.series.specs.declared.take.Change.{Change}
-use Rattle.series.specs.declared.take.Step.the-variants.{Refuses, Repeats, Keeps, Finishes}
 use Rattle.slots.specs.Below.{allBelow}
-use Rattle.slots.specs.BelowLaws.{fault-from, fault-more, fault-through, all-up-to}
-use Rattle.slots.specs.Found.{newSeatIn, seatOf, seat-found, seat-not-found, withPartIn, with-part-in}
-use Rattle.slots.specs.Slots.{slotAt, isFree, findIn, opened, freeSlot, heldAt, lengthAt, withPart, atFront, toFront, freed, withSlots, slotsIn}
-use Rattle.slots.specs.Order.{replaced, front-in, freed-in}
-use Rattle.formed.specs.Formed.{recordFormed}
-use Rattle.cells.specs.Cells.{cellsSize, cellAt, cellPart, joinedOctets}
-use Rattle.cells.specs.Handing.{Place, Reaches, hasCell, cellStart, afterStore, seriesOctets, packetOf}
-use Rattle.series.specs.Taking.{State, Answer, After, toldAnswer, kept, packet, refusedBy, state, after, handOut, completes, Step, refuses, repeats, keeps, finishes, stepNew, step, acted, takePart, takeMessage, takePage}
-use Rattle.series.specs.KeepLaws.{Sound}
-use Rattle.series.specs.Deciding.{allWith, hasWith, toldStep, stepAt, anyKeyOf, answerOf, Room, Whole, fronted, emptied, changed, Holds, Seated, Makes, Fitting, takenWhereFit}
+use Rattle.slots.specs.BelowLaws.{all-up-to}
+use Rattle.slots.specs.Found.{newSeatIn, seat-found, seat-not-found}
+use Rattle.slots.specs.Slots.{isFree, findIn, opened, heldAt, lengthAt, withPart, toFront, withSlots, slotsIn}
+use Rattle.cells.specs.Cells.{cellAt, cellPart, joinedOctets}
+use Rattle.cells.specs.Handing.{Place, Reaches, hasCell, cellStart, afterStore, packetOf}
+use Rattle.series.specs.Taking.{State, Answer, After, toldAnswer, kept, packet, refusedBy, state, after, handOut, completes, Step, refuses, repeats, keeps, finishes, stepNew, step, acted, takePart}
+use Rattle.series.specs.Deciding.{allWith, hasWith, stepAt, anyKeyOf, answerOf, Room, Whole, Seated}
 use Rattle.cells.specs.CellLaws.{cell-part, joined-pieces, store-in, same-in, packet-of}
 
 -- ---- deciding

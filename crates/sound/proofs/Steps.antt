@@ -1,6 +1,6 @@
 -- What the proofs of the test of a state cite: the laws of the tests of a record, and what octets that are a state tell.
 use Prim.Native.Nat.{ℕ, _+_, _≤_, _<_}
-use mathlib.Core.Path.{_≡_, sym, _∙_}
+use mathlib.Core.Path.{_≡_, refl, sym, _∙_}
 use mathlib.Core.Bool.{Bool, true, false, not, cond, _&&_}
 use mathlib.Core.List.{List}
 use native.Mathlib.Omega.{arith}
@@ -9,12 +9,14 @@ use lib.Dec.{eqb, ltb}
 use mir.Syntax.{w8}
 use mir.Val.{Fits}
 use borrow.Author.Needs.{needs}
+use borrow.Author.Tests.{eqb-true, eq-eqb, le-ltb}
 use Rattle.types.specs.declared.Kind.{Kind}
 use Rattle.types.specs.declared.Slot.{Slot}
 use Rattle.arrival.specs.Message.{mostParts}
-use Rattle.slots.specs.Slots.{mostSlots, used}
+use Rattle.slots.specs.BelowLaws.{all-hold}
+use Rattle.slots.specs.Slots.{mostSlots, slotAt, used}
 use Rattle.formed.specs.Formed.{markAt, ranked, recordFormed}
-use Rattle.formed.specs.Pieces.{slotsHold, slotsApart}
+use Rattle.formed.specs.Pieces.{slotsHold, pairApart, pairHolds, apartBefore, slotsApart}
 use Rattle.formed.specs.TestLaws.{testLaws, formed-told, not-formed}
 use Rattle.layout.specs.Layout.{recordIn, known, markOctet}
 use Rattle.layout.specs.Changes.{slotFrom}
@@ -45,6 +47,17 @@ used-read x r e = rw e
 
 pub rank-read : (x : Slot) (q r : ℕ) → q ≡ x .rank → eqb q r ≡ eqb (x .rank) r
 rank-read x q r e = rw e
+
+-- ---- a free slot beside others
+pub free-apart : (xs : List Slot) (i r : ℕ) → eqb r 0 ≡ true → r ≡ slotAt xs i .rank → true ≡ apartBefore xs i
+free-apart xs i r z e = sym (all-hold i (pairHolds xs i) (λ j l. beside (slotAt xs i) (slotAt xs j) (sym e ∙ eqb-true r 0 z)))
+  where
+    never : (a b : Bool) → not (a && false && b) ≡ true
+    never true b = refl
+    never false b = refl
+
+    beside : (x y : Slot) → x .rank ≡ 0 → pairApart x y ≡ true
+    beside x y f = rw (eq-eqb (x .rank) 0 f, le-ltb (y .rank) (x .rank) (omega arith)) (never (used y) (ltb (x .beats) (y .beats)))
 
 -- ---- the state
 -- its number of slots, read and widened
@@ -83,6 +96,7 @@ pub ruleset steps = (
   blank-told,
   used-read,
   rank-read,
+  free-apart,
   record-told,
   record-none,
   is-state,

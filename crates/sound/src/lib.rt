@@ -156,10 +156,14 @@ fn pair_apart(state: &[u8; STATE_OCTETS], i: usize, j: usize) -> bool
 }
 
 // ---- the slots
-// Whether slot i can be in one record with each slot before it.
+// Whether slot i can be in one record with each slot before it. A free one always can.
 fn apart_before(state: &[u8; STATE_OCTETS], i: usize) -> bool
     ensures { λ r. ⌜ r ≡ apartBefore (recordIn (now (state .entry)) .slots) i ⌝ }
 {
+    let free = rank_at(state, i) == 0;
+    if free {
+        return true;
+    }
     let mut ok = true;
     let mut j = 0;
     while j < i {

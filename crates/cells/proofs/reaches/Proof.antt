@@ -3,17 +3,7 @@ use Rattle.cells.proofs.Steps.{cellSteps}
 use Rattle.cells.proofs.reaches.Statement.{statement}
 use Rattle.cells.proofs.reaches.Tie as tie
 
-add-result : tie.Need-add-result
-add-result c = search cellSteps
-
-mul-result : tie.Need-mul-result
-mul-result c = search cellSteps
-
-returns : tie.Need-returns
-returns c = search cellSteps
-
-returns-2 : tie.Need-returns-2
-returns-2 c = search cellSteps
-
 pub reaches-spec : {M : Type 1} → statement M
-reaches-spec = tie.close (tie.spec add-result mul-result returns returns-2)
+reaches-spec =
+    tie.close
+    (tie.spec (λ c. search cellSteps) (λ c. search cellSteps) (λ c. search cellSteps) (λ c. search cellSteps))

@@ -3,11 +3,7 @@ use Rattle.cells.proofs.Steps.{handSteps}
 use Rattle.cells.proofs.packets.joins.Statement.{statement}
 use Rattle.cells.proofs.packets.joins.Tie as tie
 
-reaches-requires : tie.Need-reaches-requires
-reaches-requires c κs = search handSteps
-
-returns : tie.Need-returns
-returns c = search handSteps
-
 pub joins-spec : {M : Type 1} → statement M
-joins-spec = tie.close (tie.spec reaches-requires returns)
+joins-spec =
+    tie.close
+    (tie.spec (λ c κs. search handSteps) (λ c. search handSteps))
