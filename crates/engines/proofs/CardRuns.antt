@@ -16,7 +16,7 @@ use Rattle.beats.specs.Beats.{AfterBeat, beaten, beating, leavesBeat, beat}
 use Rattle.sound.specs.Card.{beatIn}
 use Rattle.card.specs.Carries.{call-carries, number-carries}
 use Rattle.sequences.specs.Runs.{Event, takes, beats, Store, left, leftBy, run}
-use Rattle.engines.specs.CardRuns.{Leads, took, aged, LeadsOn, none, next, held, CardRuns, CardRunsFresh}
+use Rattle.engines.specs.CardRuns.{Leads, took, aged, none, next, held, CardRuns, CardRunsFresh}
 
 beat-count : (n : ℕ) (r : Record) (limit : ℕ) → beat n r limit .rec .count ≡ r .count
 unfolding beat

@@ -1,1 +1,2 @@
 pub mod CardRuns
+pub mod Plain

@@ -1,27 +1,26 @@
 -- A used slot without one of its parts: with that part again it is the slot that it was, and without its only part it is a series just opened.
 use Prim.Native.Nat.{ℕ, zero, suc, _+_, _-_, _≤_, _<_}
 use mathlib.Core.Path.{_≡_, refl, sym, ap, _∙_}
-use mathlib.Core.Bool.{Bool, true, false, not, cond, _&&_, _||_}
+use mathlib.Core.Bool.{Bool, true, false, cond, _||_}
 use mathlib.Core.List.{List}
 use native.Mathlib.Omega.{arith}
-use lib.ListN.{length, getD, set, replicate, length-set, length-replicate, getD-replicate}
+use lib.ListN.{length, getD, set, length-set}
 use lib.Seq.{getD-set-same, getD-set-other, ext-getD}
 use lib.Dec.{eqb, ltb}
-use borrow.Author.Tests.{eqb-true, ne-eqb, ltb-true, not-true}
+use borrow.Author.Tests.{eqb-true, ne-eqb, ltb-true}
 use Rattle.octets.specs.Tests.{clash, both, Same, same, other, same?, by-test}
 use Rattle.types.specs.declared.Kind.{Kind}
 use Rattle.types.specs.declared.Slot.{Slot}
 use Rattle.arrival.specs.Message.{mostParts}
 use Rattle.arrival.specs.Keys.{lengthFits}
-use Rattle.slots.specs.Below.{allBelow, countBelow}
+use Rattle.slots.specs.Below.{countBelow}
 use Rattle.slots.specs.BelowLaws.{all-at, count-one, count-less, count-mono, count-below}
-use Rattle.slots.specs.Slots.{noKey, freeSlot, opened, used, atFront, withPart}
-use Rattle.slots.specs.FrontLaws.{same-key}
-use Rattle.formed.specs.Formed as rule
-use Rattle.formed.specs.Formed.{markAt, sizeAt, partFormed, heldCount, allZero, zeroKey, zeroPart, slotFormed}
+use Rattle.slots.specs.Slots.{opened, atFront, withPart}
+use Rattle.formed.specs.Formed.{markAt, sizeAt, partFormed, heldCount}
 use Rattle.formed.specs.Laws.{UsedSlot}
 use Rattle.series.specs.Taking.{completes}
 use Rattle.series.specs.PartLaws.{total-bounds}
+use Rattle.formed.specs.SlotLaws.{same-slot, blank-lengths, blank-marks}
 
 -- ---- counting
 -- a test that counts none fails everywhere; one that counts some holds somewhere
@@ -38,37 +37,6 @@ some-holds (suc n) f l = go (some-holds n f) (f n) refl l
         → (i : ℕ) × (i < suc n) × (f i ≡ true)
     go ih true e m = (n, omega arith, e)
     go ih false e m = let (i, k, t) = ih m in (i, omega arith, t)
-
--- ---- slots, field by field
-pub same-slot : (x y : Slot) → x .rank ≡ y .rank → x .beats ≡ y .beats → x .key ≡ y .key → x .total ≡ y .total → x .lengths ≡ y .lengths → x .held ≡ y .held
-    → x ≡ y
-same-slot x y a b c d e f = λ i. record { rank = a i; beats = b i; key = c i; total = d i; lengths = e i; held = f i }
-
--- sixteen lengths of zero, sixteen marks that are not set
-blank-lengths : (x : Slot) → length (x .lengths) ≡ mostParts → ((i : ℕ) → i < mostParts → sizeAt x i ≡ 0) → x .lengths ≡ replicate mostParts 0
-blank-lengths x size zeros =
-    ext-getD 0 (x .lengths) (replicate mostParts 0) (size ∙ sym (length-replicate {A = ℕ} mostParts 0))
-    (λ i l. zeros i (omega (arith, size)) ∙ sym (getD-replicate {A = ℕ} mostParts i 0 0 (omega (arith, size))))
-
-blank-marks : (x : Slot) → length (x .held) ≡ mostParts → ((i : ℕ) → i < mostParts → markAt x i ≡ false) → x .held ≡ replicate mostParts false
-blank-marks x size none =
-    ext-getD false (x .held) (replicate mostParts false) (size ∙ sym (length-replicate mostParts false))
-    (λ i l. none i (omega (arith, size)) ∙ sym (getD-replicate mostParts i false false (omega (arith, size))))
-
--- a free slot that is well formed is the free slot
-pub free-is : (k : Kind) (x : Slot) → slotFormed k x ≡ true → x .rank ≡ 0 → x ≡ freeSlot
-unfolding slotFormed allZero
-free-is k x e z =
-    let (s, f) = both (rule.sixteen x) (cond (used x) (rule.usedFormed k x) (allZero x)) e in
-    let (l, m) = both (eqb (length (x .lengths)) mostParts) (eqb (length (x .held)) mostParts) s in
-    let g : allZero x ≡ true = simp z at f in
-    let (g₂, ps) = both (zeroKey (x .key) && eqb (x .total) 0 && eqb (x .beats) 0) (allBelow mostParts (zeroPart x)) g in
-    let (g₁, b) = both (zeroKey (x .key) && eqb (x .total) 0) (eqb (x .beats) 0) g₂ in
-    let (ks, t) = both (zeroKey (x .key)) (eqb (x .total) 0) g₁ in
-    let parts = all-at mostParts (zeroPart x) ps in
-    same-slot x freeSlot z (eqb-true (x .beats) 0 b) (same-key (x .key) noKey ks) (eqb-true (x .total) 0 t)
-    (blank-lengths x (eqb-true (length (x .lengths)) mostParts l) (λ i h. eqb-true (sizeAt x i) 0 (both (not (markAt x i)) (eqb (sizeAt x i) 0) (parts i h) .1)))
-    (blank-marks x (eqb-true (length (x .held)) mostParts m) (λ i h. not-true (markAt x i) (both (not (markAt x i)) (eqb (sizeAt x i) 0) (parts i h) .0)))
 
 -- ---- without part p + 1
 abbrev pub without : Slot → ℕ → Slot

@@ -20,7 +20,8 @@ use Rattle.formed.specs.Formed.{markAt, sizeAt, heldCount, slotFormed}
 use Rattle.formed.specs.Laws.{Formed, UsedSlot, slot-tells, slot-front, front-formed, free-formed}
 use Rattle.series.specs.Taking.{completes}
 use Rattle.series.specs.CaseLaws.{Lacks}
-use Rattle.sequences.proofs.Away.{without, same-slot, below-total, length-fits, mark-gone, one-less, without-used, with-again, only-part, not-complete, some-holds}
+use Rattle.formed.specs.SlotLaws.{same-slot}
+use Rattle.sequences.proofs.Away.{without, below-total, length-fits, mark-gone, one-less, without-used, with-again, only-part, not-complete, some-holds}
 use Rattle.sequences.proofs.Bringing.{Brings, can-bring}
 use Rattle.sequences.proofs.Fitting.{Fit, fit-front, fit-freed}
 use Rattle.sequences.proofs.Leading.{Leads, recordOf, keeps-more, opens-new, lead-by-part}

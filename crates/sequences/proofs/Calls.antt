@@ -22,23 +22,14 @@ use Rattle.slots.specs.Slots.{slotAt, withSlots, freshRecord}
 use Rattle.formed.specs.Formed.{recordFormed}
 use Rattle.formed.specs.Laws.{Formed, formed-told, fresh-slot, fresh-formed}
 use Rattle.cells.specs.Cells.{cellsSize}
-use Rattle.series.specs.Taking.{State, After, state, refuse, unfit, taken, takeMessage, takePage}
+use Rattle.series.specs.Taking.{State, After, state, refuse, unfit, taken}
 use Rattle.beats.specs.Beats.{AfterBeat, beaten, slotsAfterBeat, droppedBy, leavesBeat, beat}
 use Rattle.beats.specs.Laws.{beat-formed}
 use Rattle.series.specs.KeepLaws.{Sound, taken-sound, taken-kind}
-use Rattle.series.specs.Calls.{Input, message, page, octetsOf, read, takeInput}
+use Rattle.series.specs.Calls.{Input, octetsOf, read, takeInput}
+pub use Rattle.series.specs.CallLaws.{isPage, taking-any}
 use Rattle.sequences.specs.Always.{BringsOctets, AlwaysFormed, NoKeyTwice}
 use Rattle.sequences.specs.Runs.{Slots, Call, Event, takes, beats, Store, fresh, outcome, left, leftBy, run, ProperCall, Proper, Each}
-
-abbrev pub isPage : Input → Bool
-isPage (message sender ud) = false
-isPage (page o) = true
-
--- ---- any call is refused 1, or is what its reading says
-pub taking-any : (n : ℕ) (s : State) (i : Input) → takeInput n s i ≡ cond (unfit n s) ((refuse) 1 s) (taken n s (isPage i) (octetsOf i) (read (s .rec .kind) i))
-unfolding takeMessage takePage
-taking-any n s (message sender ud) = refl
-taking-any n s (page o) = refl
 
 -- with a buffer or a record that is not as 01 asks
 pub unfit-taken : (n : ℕ) (s : State) (i : Input) → unfit n s ≡ true → takeInput n s i ≡ (refuse) 1 s

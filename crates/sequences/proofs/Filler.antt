@@ -24,8 +24,8 @@ use Rattle.formed.specs.Formed.{mostBeats, heldCount, slotFormed}
 use Rattle.formed.specs.Laws.{Formed, UsedSlot, slot-told, slot-count}
 use Rattle.series.specs.Taking.{completes}
 use Rattle.series.specs.PartLaws.{ready-opened, part-more}
+use Rattle.formed.specs.SlotLaws.{free-is}
 use Rattle.sequences.specs.Reachable.{KeyFits}
-use Rattle.sequences.proofs.Away.{free-is}
 use Rattle.sequences.proofs.Bringing.{can-bring}
 use Rattle.sequences.proofs.Fitting.{Fit, fit-else}
 use Rattle.sequences.proofs.Leading.{Leads, recordOf, finishes-there, lead-by-part}
@@ -33,7 +33,7 @@ use Rattle.sequences.proofs.Back.{Before, same-but, own-or-free, at-own
 
 -- ---- its key
 -- of n + 1 numbers one is not among n: as many different ones as there are places, at most
-spare : (n : ℕ) (f : ℕ → ℕ) → (s : ℕ) × (s ≤ n) × ((j : ℕ) → j < n → f j ≡ s → ⊥)
+pub spare : (n : ℕ) (f : ℕ → ℕ) → (s : ℕ) × (s ≤ n) × ((j : ℕ) → j < n → f j ≡ s → ⊥)
 spare n f = by-test (allBelow (suc n) (λ r. someRank n (λ j. suc (f j)) (r + 1))) all none
   where
     all : allBelow (suc n) (λ r. someRank n (λ j. suc (f j)) (r + 1)) ≡ true → (s : ℕ) × (s ≤ n) × ((j : ℕ) → j < n → f j ≡ s → ⊥)

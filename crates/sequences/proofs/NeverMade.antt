@@ -37,11 +37,11 @@ use Rattle.sequences.proofs.Calls.{isPage, taking, unfit-taken}
 use Rattle.sequences.proofs.Reachable.{acceptance}
 
 -- ---- refused by 1
-abbrev byOne : {A : Type 0} → Outcome A → Bool
+abbrev pub byOne : {A : Type 0} → Outcome A → Bool
 byOne (refusal.refused m) = eqb m 1
 byOne (refusal.gives x) = false
 
-abbrev answersOne : Answer → Bool
+abbrev pub answersOne : Answer → Bool
 answersOne (kept slot displaced) = false
 answersOne (heldAlready slot) = false
 answersOne (packet size) = false
@@ -85,7 +85,7 @@ page-other k o =
     go false false false true = refl
     go false false false false = refl
 
-read-other : (k : Kind) (i : Input) → byOne (read k i) ≡ false
+pub read-other : (k : Kind) (i : Input) → byOne (read k i) ≡ false
 read-other k (message sender ud) = message-other k sender ud
 read-other k (page o) = page-other k o
 

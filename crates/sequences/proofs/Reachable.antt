@@ -19,6 +19,7 @@ use Rattle.slots.specs.FrontLaws.{freed-here, freed-there}
 use Rattle.formed.specs.Formed.{heldCount, slotsFormed, recordFormed}
 use Rattle.formed.specs.Laws.{Formed, formed-tells, slot-tells, fresh-slot, fresh-formed}
 use Rattle.cells.specs.Cells.{cellsSize}
+use Rattle.formed.specs.SlotLaws.{free-is}
 use Rattle.sequences.specs.Runs.{Slots, Event, Store, fresh, leftBy, run}
 use Rattle.sequences.specs.Reachable.{KeysFit, Possible, Acceptance}
 use Rattle.sequences.proofs.Along.{All, each}
@@ -26,7 +27,7 @@ use Rattle.sequences.proofs.Calls.{Kept, kept-fresh, always-formed}
 use Rattle.sequences.proofs.Along.{run-more}
 use Rattle.sequences.proofs.Wake.{admits}
 use Rattle.sequences.proofs.Weights.{weight, weight-most, weight-falls}
-use Rattle.sequences.proofs.Away.{free-is, none-holds}
+use Rattle.sequences.proofs.Away.{none-holds}
 use Rattle.sequences.proofs.Fitting.{Fit, brings, made-fit}
 use Rattle.sequences.proofs.Leading.{Leads, recordOf}
 use Rattle.sequences.proofs.Back.{Before, same-slots, slot-formed-at, own-or-free, some-part-before, only-part-before}

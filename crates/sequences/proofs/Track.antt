@@ -1,42 +1,30 @@
 -- The proof's invariant: what is known of the slot that bears the key while its parts come, and how a call with another key moves it.
-use Prim.Native.Nat.{ℕ, suc, _+_, _-_, _≤_, _<_}
+use Prim.Native.Nat.{ℕ, suc, _-_, _≤_, _<_}
 use mathlib.Core.Path.{_≡_, refl, sym, ap, _∙_}
 use mathlib.Core.Logic.{inr}
-use mathlib.Core.Bool.{Bool, true, false, cond, not, _&&_, _||_}
+use mathlib.Core.Bool.{Bool, true, false, not, _||_}
 use mathlib.Core.List.{List, [], _∷_}
 use native.Mathlib.Omega.{arith}
 use lib.ListN.{length, getD}
 use lib.Seq.{getD-set-same, getD-set-other}
-use lib.Dec.{eqb, ltb, leb}
-use borrow.Author.Tests.{eqb-true, ne-eqb, leb-true, leb-false}
+use lib.Dec.{eqb, leb}
+use borrow.Author.Tests.{ne-eqb, leb-true, leb-false}
 use Rattle.octets.specs.Octets.{placed}
-use Rattle.octets.specs.Tests.{both, Same, same, other, same?}
+use Rattle.octets.specs.Tests.{Same, same, other, same?}
 use Rattle.types.specs.declared.Kind.{Kind}
 use Rattle.types.specs.declared.Key.{Key}
 use Rattle.arrival.specs.Message.{mostParts}
-use Rattle.arrival.specs.Keys.{lengthFits}
 use Rattle.types.specs.declared.Slot.{Slot}
 use Rattle.slots.specs.Slots.{slotAt, atRank, atFront, heldAt, lengthAt, withPart, toFront}
-use Rattle.formed.specs.Formed.{markAt, sizeAt}
 use Rattle.slots.specs.RankLaws.{pos-taken}
 use Rattle.slots.specs.FrontLaws.{front-here}
-use Rattle.formed.specs.Laws.{UsedSlot}
 use Rattle.cells.specs.Cells.{cellOctets, cellsSize, cellAt, cellPart}
 use Rattle.cells.specs.CellLaws.{part-by-length, cell-here, cell-there}
 use Rattle.series.specs.CaseLaws.{Bears, Lacks}
 use Rattle.beats.specs.Beats.{slotsAfterBeat}
 use Rattle.beats.specs.Laws.{stayed, stays-on}
-use Rattle.series.specs.KeepLaws.{short}
 use Rattle.sequences.specs.Lists.{elem, elemKey, add}
 use Rattle.sequences.proofs.Lists.{elem-add}
-
--- a part's length in a well-formed slot is that of a cell at most
-pub length-short : (k : Kind) (x : Slot) → UsedSlot k x → (m : ℕ) → 1 ≤ m → m ≤ mostParts → lengthAt x m ≤ cellOctets
-length-short k x w m low high = go (markAt x (m - 1)) (w .parts (m - 1) (omega arith))
-  where
-    go : (b : Bool) → cond b (ltb (m - 1) (x .total) && lengthFits (x .key) (m - 1 + 1) (sizeAt x (m - 1))) (eqb (sizeAt x (m - 1)) 0) ≡ true → sizeAt x (m - 1) ≤ cellOctets
-    go true e = short (x .key) (m - 1 + 1) (sizeAt x (m - 1)) (both (ltb (m - 1) (x .total)) (lengthFits (x .key) (m - 1 + 1) (sizeAt x (m - 1))) e .1)
-    go false e = omega (arith, eqb-true (sizeAt x (m - 1)) 0 e)
 
 -- ---- slot j becomes another, and each other slot keeps all but its rank
 module _ (xs ys : List Slot) (j : ℕ) (g : ℕ → ℕ) (same-used : (q : ℕ) → not (eqb (g q) 0) ≡ not (eqb q 0))

@@ -15,16 +15,17 @@ use Rattle.types.specs.Refusals as reading
 use Rattle.packet.specs.Packets.{wellFormed}
 use Rattle.types.specs.declared.Key.{Key}
 use Rattle.arrival.specs.Arrivals.{Brought, single, part}
-use Rattle.arrival.specs.Laws.{Admitted, message-part, page-part}
+use Rattle.arrival.specs.Laws.{Admitted}
 use Rattle.joined.specs.Fronts.{packetIn}
 use Rattle.slots.specs.BelowLaws.{all-at, all-hold}
 use Rattle.series.specs.Taking.{State, After, state, handOut, step, takePart, taken}
 use Rattle.beats.specs.Beats.{AfterBeat, beat}
-use Rattle.series.specs.Calls.{Input, message, page, read, octetsOf}
+use Rattle.series.specs.Calls.{read, octetsOf}
 use Rattle.series.specs.CaseLaws.{Case, case-of}
 use Rattle.slots.specs.FrontLaws.{key-same}
 use Rattle.formed.specs.Laws.{Formed}
 use Rattle.types.specs.declared.Record.{Record}
+use Rattle.series.specs.CallLaws as input
 use Rattle.sequences.specs.Lists.{elem, add, complete}
 use Rattle.sequences.specs.Runs.{Slots, Call, Event, takes, beats, Store, outcome, left, ProperCall, Proper, Each}
 use Rattle.sequences.specs.Timely.{limitsOf, FewerThanLeastOfAll, FewerThanLeast, InTime}
@@ -37,12 +38,7 @@ use Rattle.sequences.proofs.Window.{Phase, before, during, done, beat-p
 
 -- reading admits what a record can hold
 pub admits : (k : Kind) (c : Call) → Octets (octetsOf (c .input)) → Admits k c
-admits k c = go (c .input)
-  where
-    go : (i : Input) → Octets (octetsOf i) → (key : Key) (total number start : ℕ) → read k i ≡ reading.gives (part key total number start)
-        → Admitted k key total number (drop start (octetsOf i))
-    go (message sender ud) bytes key total number start e = message-part k sender ud key total number start e bytes
-    go (page o) bytes key total number start e = page-part k o key total number start e
+admits k c = input.admits k (c .input)
 
 complete-more : (t m : ℕ) (got : List ℕ) → complete t got ≡ true → complete t (add m got) ≡ true
 complete-more t m got e = all-hold t (λ i. elem (i + 1) (add m got)) (λ i l. elem-still m (i + 1) got (all-at t (λ i. elem (i + 1) got) e i l))

@@ -35,12 +35,13 @@ use Rattle.series.specs.CaseLaws.{Bears, Lacks, Case, other-total, other-octets
 use Rattle.beats.specs.Beats.{slotsAfterBeat}
 use Rattle.beats.specs.Laws.{stayed}
 use Rattle.series.specs.KeepLaws.{short}
+use Rattle.series.specs.KeepLaws.{length-short}
 use Rattle.sequences.specs.Lists.{concat, elem, elemKey, add, addKey, complete}
 use Rattle.sequences.specs.Runs.{Call, outcome}
 use Rattle.sequences.specs.Timely.{InTime}
 use Rattle.sequences.specs.Wake.{Cut, in-messages, in-pages, History, counts, firstSlot, Seating, lowest-free, least-recent, goes-on, Served, again as served-again, waits, wakes}
 use Rattle.sequences.proofs.Lists.{add-old, add-not-nil, first-known, complete-add, one-short, elem-key-add, elem-key-self, length-add-key, pigeon, keys-apart, joined-parts}
-use Rattle.sequences.proofs.Track.{length-short, Track, lacks-moved, track-moved, track-again, track-beat, track-kept}
+use Rattle.sequences.proofs.Track.{Track, lacks-moved, track-moved, track-again, track-beat, track-kept}
 
 -- ---- the packet that the parts hold
 pub packet-in : (k : Kind) (K : Key) (P : List ℕ) (parts : List (List ℕ)) → wellFormed k P ≡ true → Cut K P parts

@@ -16,9 +16,9 @@ use Rattle.formed.specs.Formed.{mostBeats, heldCount, slotFormed}
 use Rattle.formed.specs.Laws.{Formed, slot-tells, slot-told, slot-count, free-slot-formed}
 use Rattle.beats.specs.Beats.{afterBeat, slotsAfterBeat}
 use Rattle.beats.specs.Laws.{Beaten, was-free, is-dropped, is-older, beaten?, beat-at, beat-length}
+use Rattle.formed.specs.SlotLaws.{same-slot, free-is}
 use Rattle.sequences.specs.Runs.{Slots}
 use Rattle.sequences.specs.Reachable.{KeyFits}
-use Rattle.sequences.proofs.Away.{same-slot, free-is}
 use Rattle.sequences.proofs.Fitting.{Fit}
 use Rattle.sequences.proofs.Leading.{lead-by-beat}
 use Rattle.sequences.proofs.Back.{Before, same-slots, own-or-free, slot-formed-at, not-first}

@@ -1,13 +1,14 @@
 -- Taking keeps a well-formed record well formed, and the cells as long as they were.
-use Prim.Native.Nat.{ℕ, _-_, _≤_, _<_}
+use Prim.Native.Nat.{ℕ, _+_, _-_, _≤_, _<_}
 use mathlib.Core.Path.{_≡_, refl, sym, _∙_}
-use mathlib.Core.Bool.{Bool, true, false, cond}
+use mathlib.Core.Bool.{Bool, true, false, cond, _&&_}
 use mathlib.Core.List.{List}
 use mathlib.Core.Option.{Option, none, some}
 use native.Mathlib.Omega.{arith}
 use lib.ListN.{length, drop}
-use lib.Dec.{eqb, leb}
+use lib.Dec.{eqb, ltb, leb}
 use borrow.Author.Tests.{leb-true, eqb-true}
+use Rattle.octets.specs.Tests.{both}
 use Rattle.types.specs.declared.Kind.{Kind}
 use Rattle.types.specs.Refusals as reading
 use Rattle.types.specs.declared.Key.{Key}
@@ -18,8 +19,8 @@ use Rattle.arrival.specs.Laws.{Admitted}
 use Rattle.joined.specs.Fronts.{packetIn}
 use Rattle.types.specs.declared.Slot.{Slot}
 use Rattle.types.specs.declared.Record.{Record}
-use Rattle.slots.specs.Slots.{slotAt, opened, atFront, withPart, heldAt, toFront, freed, withSlots}
-use Rattle.formed.specs.Formed.{slotFormed}
+use Rattle.slots.specs.Slots.{slotAt, opened, atFront, withPart, heldAt, lengthAt, toFront, freed, withSlots}
+use Rattle.formed.specs.Formed.{markAt, sizeAt, slotFormed}
 use Rattle.formed.specs.Laws.{Formed, UsedSlot, slot-tells, slot-front, front-formed, free-formed}
 use Rattle.series.specs.PartLaws.{total-bounds, ready-held, ready-opened, part-more}
 use Rattle.series.specs.CaseLaws.{Bears, Case, other-total, other-octets, held-so, last, more, takes-free, displaces, case-of}
@@ -36,6 +37,14 @@ short key number size = go (ofPages key) (eqb (key .width) 16)
     go true w e = omega (arith, eqb-true size 82 e)
     go false true e = omega (arith, leb-true size (133 - cond (eqb number 1) 2 0) e)
     go false false e = omega (arith, leb-true size (134 - cond (eqb number 1) 2 0) e)
+
+-- a part that is held is no longer than a cell
+pub length-short : (k : Kind) (x : Slot) → UsedSlot k x → (m : ℕ) → 1 ≤ m → m ≤ mostParts → lengthAt x m ≤ cellOctets
+length-short k x w m low high = go (markAt x (m - 1)) (w .parts (m - 1) (omega arith))
+  where
+    go : (b : Bool) → cond b (ltb (m - 1) (x .total) && lengthFits (x .key) (m - 1 + 1) (sizeAt x (m - 1))) (eqb (sizeAt x (m - 1)) 0) ≡ true → sizeAt x (m - 1) ≤ cellOctets
+    go true e = short (x .key) (m - 1 + 1) (sizeAt x (m - 1)) (both (ltb (m - 1) (x .total)) (lengthFits (x .key) (m - 1 + 1) (sizeAt x (m - 1))) e .1)
+    go false e = omega (arith, eqb-true (sizeAt x (m - 1)) 0 e)
 
 -- what holds of a record and cells that calls lead to
 pub record Sound (n : ℕ) (r : Record) (cells : List ℕ) : Type 0 where

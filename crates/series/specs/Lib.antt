@@ -3,6 +3,7 @@ pub mod PartLaws
 pub mod CaseLaws
 pub mod KeepLaws
 pub mod Calls
+pub mod CallLaws
 pub mod Deciding
 pub mod TakeLaws
 pub mod StepLaws

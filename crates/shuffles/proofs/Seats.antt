@@ -35,10 +35,10 @@ use Rattle.series.specs.CaseLaws.{Bears}
 use Rattle.series.specs.PartLaws.{total-bounds, ready-opened}
 use Rattle.series.specs.KeepLaws.{short, part-sound, taken-kind}
 use Rattle.series.specs.Taking.{State, After, Answer, kept, heldAlready, packet, refusedBy, state, after, handOut, Step, refuses, repeats, keeps, finishes, completes, step, acted, takePart}
+use Rattle.series.specs.KeepLaws.{length-short}
 use Rattle.sequences.specs.Runs.{Store, left}
 use Rattle.shuffles.specs.Shuffled.{notComplete, unmarked, repeated}
 use Rattle.sequences.proofs.Calls.{Kept}
-use Rattle.sequences.proofs.Track.{length-short}
 use Rattle.shuffles.proofs.Overwritten.{placed-apart, placed-there, front-more, Missing, missing-told, missing-open}
 
 -- ---- an answer that names a slot names this one, and one that says "kept" has this mark

@@ -130,7 +130,7 @@ module _ (k : Kind) (width reference : ℕ) (p : List ℕ) (number : ℕ) where
 -- a page of a total and a number that fit: number and total are read out of the page parameter, serial number and identifier out of their octets
 module _ (serial identifier dcs total number : ℕ) (q : List ℕ) (full : length q ≡ pageContent) (inside : identifierInRange identifier ≡ true)
     (fits : total ≤ 15) (o : 1 ≤ number) (l : number ≤ total) where
-  page-read : readPage Command (pairOf serial .0 ∷ pairOf serial .1 ∷ pairOf identifier .0 ∷ pairOf identifier .1 ∷ dcs ∷ parameter total number ∷ q)
+  pub page-read : readPage Command (pairOf serial .0 ∷ pairOf serial .1 ∷ pairOf identifier .0 ∷ pairOf identifier .1 ∷ dcs ∷ parameter total number ∷ q)
       ≡ cond (eqb total 1) (gives (single pageHeader)) (gives (part (pageKey serial identifier) total number pageHeader))
   unfolding readPage
   page-read =

@@ -1,0 +1,11 @@
+pub mod Entries
+pub mod Log
+pub mod Engine
+pub mod Same
+pub mod Walks
+pub mod Copies
+pub mod Takes
+pub mod FormedLaws
+pub mod Equal
+pub mod ReadOff
+pub mod Tells

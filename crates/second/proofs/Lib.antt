@@ -1,0 +1,5 @@
+pub mod CopyLaws
+pub mod PacketLaws
+pub mod ReadyLaws
+pub mod TakeLaws
+pub mod CallLaws
