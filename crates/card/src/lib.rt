@@ -2,7 +2,6 @@
 // state is copied, and a refusal writes nothing to it.
 mod part;
 
-use layout::STATE_OCTETS;
 use layout::find;
 use layout::read::count_in;
 use layout::read::kind_in;
@@ -11,6 +10,7 @@ use types::Arrival;
 use types::PACKET_OCTETS;
 use types::Refusal;
 use types::SLOT_OCTETS;
+use types::STATE_OCTETS;
 ghost use mathlib.Core.Path.{_≡_};
 ghost use mathlib.Core.Bool.{true, false, not, _&&_, _||_};
 ghost use lib.Dec.{eqb};

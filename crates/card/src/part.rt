@@ -1,5 +1,4 @@
 // What a part of a series does to the state: decided first, then done. What is refused writes nothing.
-use layout::STATE_OCTETS;
 use layout::read::kind_in;
 use layout::read::length_at;
 use layout::read::lengths_at;
@@ -13,6 +12,7 @@ use types::Key;
 use types::Kind;
 use types::PARTS;
 use types::Refusal;
+use types::STATE_OCTETS;
 ghost use mathlib.Core.Path.{_≡_};
 ghost use mathlib.Core.Bool.{true, false};
 ghost use Prim.Native.Nat.{_≤_};

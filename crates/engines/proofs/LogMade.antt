@@ -26,7 +26,7 @@ use Rattle.formed.specs.Laws.{number-tells}
 use Rattle.series.specs.KeepLaws.{short}
 use Rattle.series.specs.Taking.{kept, heldAlready, refusedBy}
 use Rattle.series.specs.Calls.{Input, octetsOf, read}
-use Rattle.plain.specs.declared.Log.{Log}
+use Rattle.types.specs.declared.Log.{Log}
 use Rattle.plain.specs.Entries.{Entry, headOctets, entryOctets, mostEntries, logOctets, entryIn, entryAt, entriesFrom, stateIn, State}
 use Rattle.plain.specs.Log.{first, isSome, has, hasKey, isPart, hasRank, freeFrom, without, touch, close, result, handOut, newEntry, complete, whole, inPart, newSeries, forSeries, takePart, droppedBy}
 use Rattle.plain.specs.Engine.{After, against, allOf, entryFormed, noneTwice, logFormed, stateFormed, taken, takeInput, leavesBeat, beat}

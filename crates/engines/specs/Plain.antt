@@ -18,7 +18,7 @@ use Rattle.beats.specs.Beats as first
 use Rattle.cells.specs.Cells.{cellsSize}
 use Rattle.series.specs.Taking.{Answer, kept, heldAlready, packet, refusedBy}
 use Rattle.series.specs.Calls.{Input, read}
-use Rattle.plain.specs.declared.Log.{Log}
+use Rattle.types.specs.declared.Log.{Log}
 use Rattle.plain.specs.Entries.{Entry, mostEntries, logOctets, State, stateIn}
 use Rattle.plain.specs.Engine.{After, freshLog, logFormed, stateFormed, takeInput, beat}
 use Rattle.plain.specs.Same.{All, Same}

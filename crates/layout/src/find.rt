@@ -1,6 +1,5 @@
 // Which slot of a state is free, bears a key, or is taken by a new series (01, "Series"): as `slots::find` has it of a record. Each search goes
 // over the record's own slots by index.
-use crate::STATE_OCTETS;
 use crate::read::key_at;
 use crate::read::rank_at;
 use crate::read::slots_in;
@@ -8,6 +7,7 @@ use slots::find::Found;
 use slots::find::Seat;
 use slots::find::same_key;
 use types::Key;
+use types::STATE_OCTETS;
 ghost use mathlib.Core.Path.{_≡_};
 ghost use Prim.Native.Nat.{_<_};
 ghost use Rattle.slots.specs.Slots.{mostSlots, bears, isFree, findIn, isLeastRecent, leastRecent, slotsIn};

@@ -1,12 +1,12 @@
 // Which octets are a state, and a fresh one.
 use crate::MARKS;
-use crate::STATE_OCTETS;
 use crate::octet_at;
 use types::Kind;
 use types::Making;
 use types::PARTS;
 use types::Refusal;
 use types::SLOTS;
+use types::STATE_OCTETS;
 ghost use mathlib.Core.Path.{_≡_};
 ghost use lib.ListN.{length, replicate};
 ghost use Rattle.slots.specs.Below.{allBelow};

@@ -6,6 +6,7 @@ pub mod read;
 pub mod write;
 
 use types::SLOTS;
+use types::STATE_OCTETS;
 ghost use mathlib.Core.Path.{_≡_};
 ghost use Prim.Native.Nat.{_<_};
 ghost use lib.ListN.{getD, set};
@@ -13,9 +14,7 @@ ghost use Rattle.layout.specs.Blocks.{slotSize};
 ghost use Rattle.layout.specs.Layout.{own};
 ghost use Rattle.layout.specs.Changes.{Stored};
 
-// The octets of a state: a head of three, and the slots.
-pub const STATE_OCTETS: usize = HEAD + SLOTS * BLOCK;
-
+// The octets before the first slot.
 pub(crate) const HEAD: usize = 3;
 
 // The octets of a slot, and where its fields are among them.

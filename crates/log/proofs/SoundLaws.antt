@@ -17,7 +17,7 @@ use Rattle.arrival.specs.Keys.{referenceFits, keyFormed, totalFits, room, lengt
 use Rattle.slots.specs.Below.{allBelow}
 use Rattle.slots.specs.BelowLaws.{all-same}
 use Rattle.slots.specs.Slots.{isSlotNumber}
-use Rattle.plain.specs.declared.Log.{Log}
+use Rattle.types.specs.declared.Log.{Log}
 use Rattle.plain.specs.Entries.{Entry, mostEntries, logOctets, entryAt, entriesFrom, stateIn}
 use Rattle.plain.specs.Log.{first, has, isPart, hasRank}
 use Rattle.plain.specs.Engine.{entryFits, against, rankFits, entryFormed, allOf, noneTwice, logFormed, stateFormed}

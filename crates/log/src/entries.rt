@@ -1,6 +1,6 @@
 // An entry and its octets (02 [9]): what it says is read field by field. Past the end of what is lent every octet is 0, so each place can be read.
-use plain::ENTRY_HEAD;
-use plain::ENTRY_OCTETS;
+use types::ENTRY_HEAD;
+use types::ENTRY_OCTETS;
 use types::Key;
 use types::MessageIdentifier;
 use types::PART_OCTETS;

@@ -1,6 +1,5 @@
 // The order of recency in place (01, "Series"): a slot of a state comes to the front, or is freed, and the others keep their order. Each call
 // makes of the record that the state holds what `slots::order::replaced` makes of a record. If there is no slot i, nothing is changed.
-use layout::STATE_OCTETS;
 use layout::read::rank_at;
 use layout::read::slots_in;
 use layout::write::clear;
@@ -10,6 +9,7 @@ use layout::write::set_front;
 use layout::write::set_rank;
 use slots::order::rank_after;
 use types::Key;
+use types::STATE_OCTETS;
 ghost use mathlib.Core.Bool.{true, false};
 ghost use Rattle.slots.specs.Slots.{opened, freeSlot, atFront, withSlots, slotsIn};
 ghost use Rattle.slots.specs.Found.{withPartIn};

@@ -17,7 +17,7 @@ use Rattle.slots.specs.Slots.{isSlotNumber, sameKey}
 use Rattle.formed.specs.Formed.{mostBeats}
 use Rattle.series.specs.Taking.{Answer, kept, heldAlready, packet, refusedBy}
 use Rattle.series.specs.Calls.{Input, message, page}
-use Rattle.plain.specs.declared.Log.{Log}
+use Rattle.types.specs.declared.Log.{Log}
 use Rattle.plain.specs.Entries.{Entry, mostEntries, logOctets, State}
 use Rattle.plain.specs.Log.{has, hasRank, isPart, Result, result, handOut, takePart, logAfterBeat, droppedBy}
 

@@ -5,7 +5,7 @@ use lib.ListN.{length, getD, take, drop}
 use Rattle.octets.specs.Octets.{numberOf}
 use Rattle.types.specs.declared.Kind.{Kind}
 use Rattle.types.specs.declared.Key.{Key}
-use Rattle.plain.specs.declared.Log.{Log}
+use Rattle.types.specs.declared.Log.{Log}
 
 -- A part that was accepted, "an entry also notes what slots, recency and beats need": the slot of its series, the series' rank by recency (1: the most
 -- recent) and its count of beats. Key and total are those of the series too; number, size and octets are the part's own.

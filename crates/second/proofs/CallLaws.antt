@@ -23,7 +23,7 @@ use Rattle.arrival.specs.Laws.{message-part, message-single, page-part, page-si
 use Rattle.slots.specs.Slots.{isSlotNumber}
 use Rattle.series.specs.Taking.{Answer, refusedBy}
 use Rattle.series.specs.Deciding.{Fitting}
-use Rattle.plain.specs.declared.Log.{Log}
+use Rattle.types.specs.declared.Log.{Log}
 use Rattle.plain.specs.Entries.{mostEntries, logOctets, entriesFrom, stateIn}
 use Rattle.plain.specs.Log.{result, logAfterBeat, droppedBy}
 use Rattle.plain.specs.Engine.{allOf, logFormed, stateFormed, freshLog, beside, making, After, after, leaves, taken, takeMessage, takePage, beaten, beat}

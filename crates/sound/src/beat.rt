@@ -1,6 +1,5 @@
 // The beat on a state in place (02 [6]): each series is one beat older, and those that have reached the limit are dropped.
 use crate::state_formed;
-use layout::STATE_OCTETS;
 use layout::read::beats_at;
 use layout::read::rank_at;
 use layout::write::clear;
@@ -8,6 +7,7 @@ use layout::write::set_beats;
 use types::Beating;
 use types::Refusal;
 use types::SLOTS;
+use types::STATE_OCTETS;
 ghost use mathlib.Core.Path.{_≡_};
 ghost use mathlib.Core.Bool.{true};
 ghost use Prim.Native.Nat.{_<_};

@@ -277,6 +277,32 @@ pub struct Beaten {
     pub record: Record,
 }
 
+// ---- the plain engine
+// What is not in the entries of a log: the kind of the packets, the number of slots, and how many entries there are at the start of the lent octets. It
+// goes by value as a record does, so the lent octets are entries and nothing else, and no octet has to be read as a kind.
+pub struct Log {
+    pub kind: Kind,
+    pub slots: u8,
+    pub count: u8,
+}
+
+// The answer, and the log. Beside a refusal it is one without slots, which no call accepts.
+pub struct LogMade {
+    pub answer: Making,
+    pub log: Log,
+}
+
+// The answer, and the log as it is afterwards.
+pub struct LogTaken {
+    pub answer: Answer,
+    pub log: Log,
+}
+
+pub struct LogBeaten {
+    pub answer: Beating,
+    pub log: Log,
+}
+
 // ---- sizes of what a caller lends
 // The most octets of a packet: the output of taking, the buffer of building.
 pub const PACKET_OCTETS: usize = 2142;
@@ -289,6 +315,18 @@ pub const SLOT_OCTETS: usize = PARTS * PART_OCTETS;
 
 // The cells of a record with five slots.
 pub const CELLS_OCTETS: usize = SLOTS * SLOT_OCTETS;
+
+// The octets of a state, which is a record in place: a head of three, and 46 for each of five slots.
+pub const STATE_OCTETS: usize = 233;
+
+// The octets of an entry of a log, those before its part, and the octets of a log: room for 80 entries, of which at most 75 ever stand.
+pub const ENTRY_OCTETS: usize = 151;
+
+pub const ENTRY_HEAD: usize = 17;
+
+pub const LOG_ENTRIES: usize = 80;
+
+pub const LOG_OCTETS: usize = LOG_ENTRIES * ENTRY_OCTETS;
 
 // The most octets of user data, and of a part of a short message behind its header; those of a page, and of its content.
 
