@@ -8,11 +8,15 @@ pub use types::CAPTURE_OCTETS;
 pub use types::CELLS_OCTETS;
 pub use types::CHECKSUM_OCTETS;
 pub use types::COUNTER_ENTRIES;
+pub use types::ENTRY_OCTETS;
+pub use types::LOG_ENTRIES;
+pub use types::LOG_OCTETS;
 pub use types::OUTSTANDING_ENTRIES;
 pub use types::PACKET_OCTETS;
 pub use types::PAGE_OCTETS;
 pub use types::SLOT_OCTETS;
 pub use types::SLOTS;
+pub use types::STATE_OCTETS;
 pub use types::UM_OCTETS;
 pub use types::USER_DATA_OCTETS;
 pub use types::USSD_OCTETS;
@@ -97,6 +101,24 @@ pub use types::Making;
 pub use types::Record;
 pub use types::Slot;
 pub use types::Taken;
+
+// The same in place, on the octets of a state that the caller lends: for a card.
+pub use card::take_message as state_take_message;
+pub use card::take_page as state_take_page;
+pub use layout::known::fresh as fresh_state;
+pub use sound::beat::beat as state_beat;
+pub use sound::state_formed;
+
+// The same on a log of accepted parts, which anybody can follow: for a bench (02 [9]).
+pub use log::sound::state_formed as log_formed;
+pub use second::beat_log as log_beat;
+pub use second::fresh_log;
+pub use second::take_message as log_take_message;
+pub use second::take_page as log_take_page;
+pub use types::Log;
+pub use types::LogBeaten;
+pub use types::LogMade;
+pub use types::LogTaken;
 
 // Splitting: one part a call.
 pub use split::write_message;
