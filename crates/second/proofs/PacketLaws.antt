@@ -3,13 +3,13 @@ use Prim.Native.Nat.{ℕ, zero, suc, _+_, _-_, _≤_, _<_}
 use mathlib.Core.Path.{_≡_, refl, sym, ap, _∙_}
 use mathlib.Core.Bool.{Bool}
 use mathlib.Core.List.{List, _++_}
-use mathlib.Core.Option.{Option, none, some}
+use mathlib.Core.Option.{Option}
 use native.Mathlib.Omega.{arith}
 use native.Mathlib.Numerals.{add-one}
 use lib.ListN.{length, take, drop, replicate, length-append, length-replicate}
 use lib.Seq.{length-take-le, take-append-seam}
 use borrow.Author.Needs.{needs}
-use borrow.Author.Tests.{eq-eqb, ne-eqb, lt-ltb, le-ltb}
+use borrow.Author.Tests.{eq-eqb, ne-eqb}
 use Rattle.octets.specs.Octets.{placed, afterPut}
 use Rattle.octets.specs.Laws.{length-placed, put-fits, placed-start, placed-behind}
 use Rattle.octets.specs.Joined.{joined}
@@ -23,18 +23,8 @@ use Rattle.joined.specs.Laws.{none-told, none-kept, packet-inside, packet-told,
 use Rattle.plain.specs.Entries.{Entry, entryAt, entriesFrom}
 use Rattle.plain.specs.Log.{first, isPart}
 use Rattle.log.specs.Places.{foundAt}
+use Rattle.log.specs.Laws.{found-some, found-none}
 use Rattle.second.specs.Acting.{pieceOf, wholeOf}
-
--- ---- what a walk over all entries found
-module _ (p : Entry → Bool) (lent : List ℕ) (m i : ℕ) (found : foundAt lent m i ≡ first p (entriesFrom lent 0 (m - 0))) where
-  from-start : first p (entriesFrom lent 0 (m - 0)) ≡ first p (entriesFrom lent 0 m)
-  from-start = let z : m - 0 ≡ m = omega arith in rw z
-
-  pub found-some : i < m → first p (entriesFrom lent 0 m) ≡ some (entryAt lent i)
-  found-some l = sym (found ∙ from-start) ∙ rw (lt-ltb i m l)
-
-  pub found-none : m ≤ i → first p (entriesFrom lent 0 m) ≡ none
-  found-none l = sym (found ∙ from-start) ∙ rw (le-ltb i m l)
 
 -- ---- a part by its number
 module _ (lent : List ℕ) (m slot number : ℕ) (part : List ℕ) (k : ℕ) where

@@ -31,7 +31,7 @@ use Rattle.plain.specs.Engine.{altersNothing, taken}
 use Rattle.log.specs.Places.{foundAt, freeAt, allWith}
 use Rattle.second.specs.Copying.{partEntry}
 use Rattle.second.specs.Acting.{Sound, Ready, Stays, onlyReads, lacking, Opened, slotOrFirst, wholeOf}
-use Rattle.second.proofs.PacketLaws.{found-some, found-none}
+use Rattle.log.specs.Laws.{found-some, found-none}
 use Rattle.second.proofs.ReadyLaws.{readySteps}
 
 -- ---- what stays

@@ -111,6 +111,7 @@ pub use sound::state_formed;
 
 // The same on a log of accepted parts, which anybody can follow: for a bench (02 [9]).
 pub use log::sound::state_formed as log_formed;
+pub use readoff::log_record;
 pub use second::beat_log as log_beat;
 pub use second::fresh_log;
 pub use second::take_message as log_take_message;
