@@ -20,8 +20,8 @@ use Rattle.slots.specs.BelowLaws.{all-at}
 use Rattle.slots.specs.FrontLaws.{same-key, key-same}
 use Rattle.slots.specs.Slots.{slotAt, aged, closed}
 use Rattle.plain.specs.Entries.{Entry, logOctets}
-use Rattle.plain.specs.Log.{has, hasKey, ofSlot, isPart, only, without, touched, touch, movedUp, close, newEntry, complete}
-use Rattle.plain.specs.Same.{All, Fits, Same}
+use Rattle.plain.specs.Log.{hasEntry, hasKey, ofSlot, isPart, only, without, touched, touch, movedUp, close, newEntry, logComplete}
+use Rattle.plain.specs.Same.{All, Fits}
 use Rattle.plain.specs.Walks.{is-part, part-is, first-tells, has-more, has-none, free-hit, all-weaker, all-map, all-only, all-snoc, snoc-old, snoc-new, none-all, all-and}
 use Rattle.plain.specs.Copies.{of-another, not-of}
 use Rattle.sequences.specs.Runs.{Slots}
@@ -48,7 +48,7 @@ module _ (i r : ℕ) where
       go false m z = z
 
 -- a series of two parts that has one is complete with the other
-both-parts : (i : ℕ) (L : List Entry) → has (isPart i 1) L ≡ true → allBelow 2 (λ j. eqb (j + 1) 2 || has (isPart i (j + 1)) L) ≡ true
+both-parts : (i : ℕ) (L : List Entry) → hasEntry (isPart i 1) L ≡ true → allBelow 2 (λ j. eqb (j + 1) 2 || hasEntry (isPart i (j + 1)) L) ≡ true
 unfolding allBelow
 both-parts i L h = rw h
 
@@ -86,8 +86,8 @@ module _ (n : ℕ) (good : Slots n) (k : Kind) (lent : List ℕ) (long : length 
     pub brought : Bringable k (e .key) (e .total) (e .number) (e .octets)
     pub long-as : e .size ≡ length (e .octets)
     pub apart : All (Apart e) P
-    pub new : has (isPart (e .slot) (e .number)) P ≡ false
-    pub lacks : (j : ℕ) × (j < e .total) × (j + 1 ≡ e .number → ⊥) × (has (isPart (e .slot) (j + 1)) P ≡ false)
+    pub new : hasEntry (isPart (e .slot) (e .number)) P ≡ false
+    pub lacks : (j : ℕ) × (j < e .total) × (j + 1 ≡ e .number → ⊥) × (hasEntry (isPart (e .slot) (j + 1)) P ≡ false)
     pub strange : e .key .sender ≡ s → ⊥
     pub strangers : All (λ x. x .key .sender ≡ s → ⊥) P
 
@@ -97,20 +97,20 @@ module _ (n : ℕ) (good : Slots n) (k : Kind) (lent : List ℕ) (long : length 
   new-bare e L i p q = let q′ = sym q in λ d. record { slot = p d; rank = 0; beats = 0; key = e .key; total = e .total; number = e .number; size = q′ d; octets = e .octets }
 
   -- ---- a part of a series that is there
-  keep : (s : ℕ) (P : List Entry) (e : Entry) → Next s P e → (L : List Entry) → Built P L → has (ofSlot (e .slot)) P ≡ true → (M : List Entry) × Built (P ++ e ∷ []) M
+  keep : (s : ℕ) (P : List Entry) (e : Entry) → Next s P e → (L : List Entry) → Built P L → hasEntry (ofSlot (e .slot)) P ≡ true → (M : List Entry) × Built (P ++ e ∷ []) M
   keep s P e a L m there =
       let apart-L : All (Apart e) L = all-same (Apart e) (λ x q. record { same-series = q .same-series; other-key = q .other-key }) (λ x q. record { same-series = q .same-series; other-key = q .other-key }) P L (sym (m .shape)) (a .apart) in
-      let slot-L : has (ofSlot (e .slot)) L ≡ true = has-same (ofSlot (e .slot)) (λ x. refl) L P (m .shape) ∙ there in
-      let key-L : has (hasKey (e .key)) L ≡ true = has-more (Apart e) (ofSlot (e .slot)) (hasKey (e .key)) L apart-L (λ x q t. key-same (x .key) (e .key) (q .same-series (eqb-true (x .slot) (e .slot) t) .0)) slot-L in
+      let slot-L : hasEntry (ofSlot (e .slot)) L ≡ true = has-same (ofSlot (e .slot)) (λ x. refl) L P (m .shape) ∙ there in
+      let key-L : hasEntry (hasKey (e .key)) L ≡ true = has-more (Apart e) (ofSlot (e .slot)) (hasKey (e .key)) L apart-L (λ x q t. key-same (x .key) (e .key) (q .same-series (eqb-true (x .slot) (e .slot) t) .0)) slot-L in
       let (x, found) = some-first (hasKey (e .key)) L key-L in
       let (q, t) = first-tells (Apart e) (hasKey (e .key)) L apart-L x found in
       let p : x .slot ≡ e .slot = q .other-key (same-key (x .key) (e .key) t) in
       let counted : eqb (x .total) (e .total) ≡ true = eq-eqb (x .total) (e .total) (q .same-series p .1) in
       let (j, l, ne, gone) = a .lacks in
-      let none-L : (number : ℕ) → has (isPart (e .slot) number) P ≡ false → has (isPart (x .slot) number) L ≡ false =
-      λ number h. ap (λ (i : ℕ). has (isPart i number) L) p ∙ has-same (isPart (e .slot) number) (λ x. refl) L P (m .shape) ∙ h in
-      let unfinished : complete n k L blank (e .key) (e .total) (e .number) (e .octets) (x .slot) ≡ false =
-      lacking (e .total) (λ i. eqb (i + 1) (e .number) || has (isPart (x .slot) (i + 1)) L) j l (neither-of (eqb (j + 1) (e .number)) (has (isPart (x .slot) (j + 1)) L) (ne-eqb (j + 1) (e .number) ne) (none-L (j + 1) gone)) in
+      let none-L : (number : ℕ) → hasEntry (isPart (e .slot) number) P ≡ false → hasEntry (isPart (x .slot) number) L ≡ false =
+      λ number h. ap (λ (i : ℕ). hasEntry (isPart i number) L) p ∙ has-same (isPart (e .slot) number) (λ x. refl) L P (m .shape) ∙ h in
+      let unfinished : logComplete n k L blank (e .key) (e .total) (e .number) (e .octets) (x .slot) ≡ false =
+      lacking (e .total) (λ i. eqb (i + 1) (e .number) || hasEntry (isPart (x .slot) (i + 1)) L) j l (neither-of (eqb (j + 1) (e .number)) (hasEntry (isPart (x .slot) (j + 1)) L) (ne-eqb (j + 1) (e .number) ne) (none-L (j + 1) gone)) in
       let N : List Entry = touch (x .slot) (x .rank) L in
       let f : Entry = newEntry n k L blank (e .key) (e .total) (e .number) (e .octets) (x .slot) in (
         N ++ f ∷ [],
@@ -176,18 +176,18 @@ module _ (n : ℕ) (good : Slots n) (k : Kind) (lent : List ℕ) (long : length 
         (λ (f : Filler p x). (f, ap (λ (y : Key). y .reference) (sym (f .key) ∙ e))) o
 
     -- slot p is used already, or it is filled
-    fill-one : (p : ℕ) → p < n → (P L : List Entry) → Filled p P L → ((j : ℕ) → j < p → has (ofSlot j) L ≡ true)
-        → (M : List Entry) × Filled (suc p) P M × ((j : ℕ) → j < suc p → has (ofSlot j) M ≡ true)
-    fill-one p l P L m used = by-test (has (ofSlot p) L) there gone
+    fill-one : (p : ℕ) → p < n → (P L : List Entry) → Filled p P L → ((j : ℕ) → j < p → hasEntry (ofSlot j) L ≡ true)
+        → (M : List Entry) × Filled (suc p) P M × ((j : ℕ) → j < suc p → hasEntry (ofSlot j) M ≡ true)
+    fill-one p l P L m used = by-test (hasEntry (ofSlot p) L) there gone
       where
         wider : (x : Entry) → (own x ≡ true) ⊎ Filler p x → (own x ≡ true) ⊎ Filler (suc p) x
         wider x o = ⊎-elim (λ (h : own x ≡ true). inl h) (λ (f : Filler p x). inr (record { key = f .key; below = omega (arith, f .below); total = f .total; number = f .number })) o
 
-        there : has (ofSlot p) L ≡ true → (M : List Entry) × Filled (suc p) P M × ((j : ℕ) → j < suc p → has (ofSlot j) M ≡ true)
+        there : hasEntry (ofSlot p) L ≡ true → (M : List Entry) × Filled (suc p) P M × ((j : ℕ) → j < suc p → hasEntry (ofSlot j) M ≡ true)
         there h = (L, record { reach = m .reach; shape = m .shape; zeros = m .zeros; fills = all-weaker (λ x. (own x ≡ true) ⊎ Filler p x) (λ x. (own x ≡ true) ⊎ Filler (suc p) x) L (m .fills) wider }, λ j b. go j b (same? j p))
           where
-            go : (j : ℕ) → j < suc p → tests.Same j p → has (ofSlot j) L ≡ true
-            go j b (tests.same e q) = subst (λ (i : ℕ). has (ofSlot i) L ≡ true) (sym q) h
+            go : (j : ℕ) → j < suc p → tests.Same j p → hasEntry (ofSlot j) L ≡ true
+            go j b (tests.same e q) = subst (λ (i : ℕ). hasEntry (ofSlot i) L ≡ true) (sym q) h
             go j b (tests.other e ne) = used j (omega arith)
 
         f : Entry
@@ -196,7 +196,7 @@ module _ (n : ℕ) (good : Slots n) (k : Kind) (lent : List ℕ) (long : length 
         N : List Entry
         N = touch p 0 L
 
-        gone : has (ofSlot p) L ≡ false → (M : List Entry) × Filled (suc p) P M × ((j : ℕ) → j < suc p → has (ofSlot j) M ≡ true)
+        gone : hasEntry (ofSlot p) L ≡ false → (M : List Entry) × Filled (suc p) P M × ((j : ℕ) → j < suc p → hasEntry (ofSlot j) M ≡ true)
         gone h = (
           touch p 0 L ++ newEntry n k L blank (fillerKey p) 2 1 [] p ∷ [],
           record {
@@ -216,7 +216,7 @@ module _ (n : ℕ) (good : Slots n) (k : Kind) (lent : List ℕ) (long : length 
             nobody : All (λ x. x .slot ≡ p → ⊥) L
             nobody = all-weaker (λ x. ofSlot p x ≡ false) (λ x. x .slot ≡ p → ⊥) L (none-all (ofSlot p) L h) (λ x e. eqb-false (x .slot) p e)
 
-            no-key : has (hasKey (fillerKey p)) L ≡ false
+            no-key : hasEntry (hasKey (fillerKey p)) L ≡ false
             no-key = has-none (λ x. (own x ≡ true) ⊎ Filler p x) (hasKey (fillerKey p)) L (m .fills)
                 (λ x o t. let (g, e) = told-filler p p x o (same-key (x .key) (fillerKey p) t) in omega (arith, g .below))
 
@@ -227,20 +227,20 @@ module _ (n : ℕ) (good : Slots n) (k : Kind) (lent : List ℕ) (long : length 
             as-touched x o =
                 ⊎-elim (λ (h : own x ≡ true). inl h) (λ (f : Filler (suc p) x). inr (record { key = f .key; below = f .below; total = f .total; number = f .number })) o
 
-            go : (j : ℕ) → j < suc p → tests.Same j p → has (ofSlot j) (touch p 0 L ++ newEntry n k L blank (fillerKey p) 2 1 [] p ∷ []) ≡ true
+            go : (j : ℕ) → j < suc p → tests.Same j p → hasEntry (ofSlot j) (touch p 0 L ++ newEntry n k L blank (fillerKey p) 2 1 [] p ∷ []) ≡ true
             go j b (tests.same e q) = snoc-new (ofSlot j) (touch p 0 L) (newEntry n k L blank (fillerKey p) 2 1 [] p) (eq-eqb p j (sym q))
             go j b (tests.other e ne) =
                 snoc-old (ofSlot j) (touch p 0 L) (newEntry n k L blank (fillerKey p) 2 1 [] p) (has-same (ofSlot j) (λ x. refl) (touch p 0 L) L (touched-bares p 0 L) ∙ used j (omega arith))
 
-    fill : (d p i : ℕ) → p + d ≡ i → i < n → (P L : List Entry) → Filled p P L → ((j : ℕ) → j < p → has (ofSlot j) L ≡ true)
-        → (M : List Entry) × Filled i P M × ((j : ℕ) → j < i → has (ofSlot j) M ≡ true)
+    fill : (d p i : ℕ) → p + d ≡ i → i < n → (P L : List Entry) → Filled p P L → ((j : ℕ) → j < p → hasEntry (ofSlot j) L ≡ true)
+        → (M : List Entry) × Filled i P M × ((j : ℕ) → j < i → hasEntry (ofSlot j) M ≡ true)
     fill zero p i e l P L m used =
         let q : p ≡ i = omega arith in
-        subst (λ (z : ℕ). (M : List Entry) × Filled z P M × ((j : ℕ) → j < z → has (ofSlot j) M ≡ true)) q (L, m, used)
+        subst (λ (z : ℕ). (M : List Entry) × Filled z P M × ((j : ℕ) → j < z → hasEntry (ofSlot j) M ≡ true)) q (L, m, used)
     fill (suc d) p i e l P L m used = let (M, m′, used′) = fill-one p (omega arith) P L m used in fill d (suc p) i (omega arith) l P M m′ used′
 
     -- ---- the part that opens its series
-    opening : (P : List Entry) (e : Entry) → Next s P e → has (ofSlot (e .slot)) P ≡ false → (L : List Entry) → Filled (e .slot) P L → ((j : ℕ) → j < e .slot → has (ofSlot j) L ≡ true)
+    opening : (P : List Entry) (e : Entry) → Next s P e → hasEntry (ofSlot (e .slot)) P ≡ false → (L : List Entry) → Filled (e .slot) P L → ((j : ℕ) → j < e .slot → hasEntry (ofSlot j) L ≡ true)
         → (M : List Entry) × Filled (e .slot) (P ++ e ∷ []) M
     opening P e a empty L m used = (
       touch i 0 L ++ f ∷ [],
@@ -290,15 +290,15 @@ module _ (n : ℕ) (good : Slots n) (k : Kind) (lent : List ℕ) (long : length 
         nobody : All (λ x. x .slot ≡ e .slot → ⊥) L
         nobody = all-weaker (λ x. (x .slot ≡ e .slot → ⊥) × (x .key ≡ e .key → ⊥)) (λ x. x .slot ≡ e .slot → ⊥) L far (λ x q. q .0)
 
-        no-slot : has (ofSlot (e .slot)) L ≡ false
+        no-slot : hasEntry (ofSlot (e .slot)) L ≡ false
         no-slot = has-none (λ x. x .slot ≡ e .slot → ⊥) (ofSlot (e .slot)) L nobody (λ x q t. q (eqb-true (x .slot) (e .slot) t))
 
-        no-key : has (hasKey (e .key)) L ≡ false
+        no-key : hasEntry (hasKey (e .key)) L ≡ false
         no-key = has-none (λ x. (x .slot ≡ e .slot → ⊥) × (x .key ≡ e .key → ⊥)) (hasKey (e .key)) L far (λ x q t. q .1 (same-key (x .key) (e .key) t))
 
     -- ---- the fillers are finished
     finish-one : (q : ℕ) → q < n → (P L : List Entry) → Filled (suc q) P L → (M : List Entry) × Filled q P M
-    finish-one q l P L m = by-test (has (hasKey (fillerKey q)) L) there gone
+    finish-one q l P L m = by-test (hasEntry (hasKey (fillerKey q)) L) there gone
       where
         -- a filler of another slot
         lower : (x : Entry) → (x .slot ≡ q → ⊥) → (own x ≡ true) ⊎ Filler (suc q) x → (own x ≡ true) ⊎ Filler q x
@@ -307,7 +307,7 @@ module _ (n : ℕ) (good : Slots n) (k : Kind) (lent : List ℕ) (long : length 
             strict : x .slot < suc q → x .slot < q
             strict b = omega arith
 
-        gone : has (hasKey (fillerKey q)) L ≡ false → (M : List Entry) × Filled q P M
+        gone : hasEntry (hasKey (fillerKey q)) L ≡ false → (M : List Entry) × Filled q P M
         gone h = (
           L,
           record {
@@ -324,7 +324,7 @@ module _ (n : ℕ) (good : Slots n) (k : Kind) (lent : List ℕ) (long : length 
                 ⊎-elim (λ (p : own x ≡ true). inl p)
                 (λ (f : Filler (suc q) x). lower x (λ e. clash (hasKey (fillerKey q) x) (key-same (x .key) (fillerKey q) (f .key ∙ ap fillerKey e)) h) (inr f)) o
 
-        there : has (hasKey (fillerKey q)) L ≡ true → (M : List Entry) × Filled q P M
+        there : hasEntry (hasKey (fillerKey q)) L ≡ true → (M : List Entry) × Filled q P M
         there h =
             let (x, found) = some-first (hasKey (fillerKey q)) L h in
             let (o, t) = first-tells (λ x. (own x ≡ true) ⊎ Filler (suc q) x) (hasKey (fillerKey q)) L (m .fills) x found in
@@ -336,8 +336,8 @@ module _ (n : ℕ) (good : Slots n) (k : Kind) (lent : List ℕ) (long : length 
             all-weaker (λ y. Fits n xs cells y × ((own y ≡ true) ⊎ Filler (suc q) y)) (λ y. y .slot ≡ x .slot → (own y ≡ false) × (y .number ≡ 1)) L
             (all-and (Fits n xs cells) (λ y. (own y ≡ true) ⊎ Filler (suc q) y) L (same .each) (m .fills))
             (λ y p z. let (d, r) = told-filler (suc q) q y (p .1) (sym (p .0 .key) ∙ ap (λ (j : ℕ). slotAt xs j .key) z ∙ g .key ∙ same-key (x .key) (fillerKey q) t) in (not-own (suc q) y d, d .number)) in
-            let no-second : has (isPart (x .slot) 2) L ≡ false = has-none (λ y. y .slot ≡ x .slot → (own y ≡ false) × (y .number ≡ 1)) (isPart (x .slot) 2) L mine (λ y p z. let (a, b) = is-part (x .slot) 2 y z in omega (arith, p a .1)) in
-            let one : has (isPart (x .slot) 1) L ≡ true =
+            let no-second : hasEntry (isPart (x .slot) 2) L ≡ false = has-none (λ y. y .slot ≡ x .slot → (own y ≡ false) × (y .number ≡ 1)) (isPart (x .slot) 2) L mine (λ y p z. let (a, b) = is-part (x .slot) 2 y z in omega (arith, p a .1)) in
+            let one : hasEntry (isPart (x .slot) 1) L ≡ true =
             has-more (λ y. (own y ≡ true) ⊎ Filler (suc q) y) (hasKey (fillerKey q)) (isPart (x .slot) 1) L (m .fills)
             (λ y p z. let (d, r) = told-filler (suc q) q y p (same-key (y .key) (fillerKey q) z) in part-is (x .slot) 1 y (r ∙ sym e) (d .number)) h in
             let M : List Entry = close (x .rank) (without (x .slot) L) in (
@@ -365,7 +365,7 @@ module _ (n : ℕ) (good : Slots n) (k : Kind) (lent : List ℕ) (long : length 
 
     -- ---- one entry more
     more : (P : List Entry) (e : Entry) → Next s P e → (L : List Entry) → Built P L → (M : List Entry) × Built (P ++ e ∷ []) M
-    more P e a L m = by-test (has (ofSlot (e .slot)) P) (keep s P e a L m) open-it
+    more P e a L m = by-test (hasEntry (ofSlot (e .slot)) P) (keep s P e a L m) open-it
       where
         strange-L : All (λ x. own x ≡ true) L
         strange-L =
@@ -379,7 +379,7 @@ module _ (n : ℕ) (good : Slots n) (k : Kind) (lent : List ℕ) (long : length 
           zeros = f .zeros;
         }
 
-        open-it : has (ofSlot (e .slot)) P ≡ false → (M : List Entry) × Built (P ++ e ∷ []) M
+        open-it : hasEntry (ofSlot (e .slot)) P ≡ false → (M : List Entry) × Built (P ++ e ∷ []) M
         open-it empty =
             let begin : Filled 0 P L = record {
               reach = m .reach;

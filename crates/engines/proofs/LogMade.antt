@@ -27,15 +27,15 @@ use Rattle.series.specs.KeepLaws.{short}
 use Rattle.series.specs.Taking.{kept, heldAlready, refusedBy}
 use Rattle.series.specs.Calls.{Input, octetsOf, read}
 use Rattle.types.specs.declared.Log.{Log}
-use Rattle.plain.specs.Entries.{Entry, headOctets, entryOctets, mostEntries, logOctets, entryIn, entryAt, entriesFrom, stateIn, State}
-use Rattle.plain.specs.Log.{first, isSome, has, hasKey, isPart, hasRank, freeFrom, without, touch, close, result, handOut, newEntry, complete, whole, inPart, newSeries, forSeries, takePart, droppedBy}
-use Rattle.plain.specs.Engine.{After, against, allOf, entryFormed, noneTwice, logFormed, stateFormed, taken, takeInput, leavesBeat, beat}
-use Rattle.plain.specs.Same.{All, nil, cons, Once, one}
+use Rattle.plain.specs.Entries.{Entry, entryHead, entryOctets, mostEntries, logOctets, entryIn, logEntryAt, entriesFrom, stateIn, LogState}
+use Rattle.plain.specs.Log.{firstEntry, isSome, hasEntry, hasKey, isPart, ofRank, freeFrom, without, touch, close, result, logHandOut, newEntry, logComplete, whole, inPart, newSeries, forSeries, logTakePart, logDropped}
+use Rattle.plain.specs.Engine.{AfterLog, against, allOf, entryFormed, noneTwice, logFormed, stateFormed, logTaken, logTakeInput, leavesLogBeat, logBeat}
+use Rattle.plain.specs.Same.{All, nil, cons, Once, once-more}
 use Rattle.plain.specs.Walks.{is-part, part-is, all-weaker, none-all, all-and}
-use Rattle.plain.specs.FormedLaws.{log-formed, room}
+use Rattle.plain.specs.FormedLaws.{log-formed, entry-room}
 use Rattle.series.specs.CallLaws.{isPage}
 use Rattle.plain.specs.Equal.{plain-comes}
-use Rattle.plain.specs.Tells.{Ok, formed-tells, agreeing, differing}
+use Rattle.plain.specs.Tells.{Ok, log-formed-tells, agreeing, differing}
 use Rattle.sequences.specs.Runs.{Slots}
 use Rattle.sequences.specs.Reachable.{KeyFits, Possible, Exactly}
 use Rattle.engines.specs.Plain.{EntryInType, LogMadeIn, LogNeverMade, LogAcceptance}
@@ -60,15 +60,15 @@ no-sender s [] f = nil
 no-sender s (e ∷ T) f = cons (f 0 (omega arith)) (no-sender s T (λ j l. f (suc j) (omega arith)))
 
 -- ---- a part that is there once is not before itself
-once-front : (P : List Entry) (e : Entry) (S : List Entry) → Once (P ++ e ∷ S) → has (isPart (e .slot) (e .number)) P ≡ false
-unfolding first
+once-front : (P : List Entry) (e : Entry) (S : List Entry) → Once (P ++ e ∷ S) → hasEntry (isPart (e .slot) (e .number)) P ≡ false
+unfolding firstEntry
 once-front [] e S o = refl
-once-front (x ∷ P) e S (one h o) = go (isPart (e .slot) (e .number) x) refl (once-front P e S o)
+once-front (x ∷ P) e S (once-more h o) = go (isPart (e .slot) (e .number) x) refl (once-front P e S o)
   where
     later : isPart (x .slot) (x .number) e ≡ false
     later = all-split (λ y. isPart (x .slot) (x .number) y ≡ false) P e S (none-all (isPart (x .slot) (x .number)) (P ++ e ∷ S) h) .1
 
-    go : (b : Bool) → isPart (e .slot) (e .number) x ≡ b → has (isPart (e .slot) (e .number)) P ≡ false → isSome (cond b (some x) (first (isPart (e .slot) (e .number)) P)) ≡ false
+    go : (b : Bool) → isPart (e .slot) (e .number) x ≡ b → hasEntry (isPart (e .slot) (e .number)) P ≡ false → isSome (cond b (some x) (firstEntry (isPart (e .slot) (e .number)) P)) ≡ false
     go true q ih =
         let (a, c) = is-part (e .slot) (e .number) x q in absurd (clash (isPart (x .slot) (x .number) e) (part-is (x .slot) (x .number) e (sym a) (sym c)) later)
     go false q ih = ih
@@ -81,7 +81,7 @@ of-formed n k T formed =
 
 module _ (n : ℕ) (k : Kind) (T : List Entry) (formed : logFormed n k T ≡ true) (few : length T ≤ mostEntries) (types : All EntryInType T) where
   ok : All (Ok n k T) T
-  ok = formed-tells n k T formed .0
+  ok = log-formed-tells n k T formed .0
 
   good : Slots n
   good = of-formed n k T formed
@@ -108,9 +108,9 @@ module _ (n : ℕ) (k : Kind) (T : List Entry) (formed : logFormed n k T ≡ tru
           brought = brought e eok et;
           long-as = et .size;
           apart = all-weaker (λ x. against e x ≡ false) (Apart n good k lent long e) Q
-              (all-split (λ x. against e x ≡ false) Q e R (none-all (against e) (Q ++ e ∷ R) (subst (λ (z : List Entry). has (against e) z ≡ false) q (eok .alone))) .0)
+              (all-split (λ x. against e x ≡ false) Q e R (none-all (against e) (Q ++ e ∷ R) (subst (λ (z : List Entry). hasEntry (against e) z ≡ false) q (eok .alone))) .0)
               (λ x h. record { same-series = λ p. (agreeing e x h p .key, agreeing e x h p .total); other-key = λ z. one-key x h z (same? (x .slot) (e .slot)) });
-          new = once-front Q e R (subst Once q (formed-tells n k T formed .1));
+          new = once-front Q e R (subst Once q (log-formed-tells n k T formed .1));
           lacks = lacking eok;
           strange = es;
           strangers = qs;
@@ -120,10 +120,10 @@ module _ (n : ℕ) (k : Kind) (T : List Entry) (formed : logFormed n k T ≡ tru
         one-key x h z (tests.same t p) = p
         one-key x h z (tests.other t ne) = absurd (differing e x h ne .key z)
 
-        lacking : Ok n k T e → (j : ℕ) × (j < e .total) × (j + 1 ≡ e .number → ⊥) × (has (isPart (e .slot) (j + 1)) Q ≡ false)
+        lacking : Ok n k T e → (j : ℕ) × (j < e .total) × (j + 1 ≡ e .number → ⊥) × (hasEntry (isPart (e .slot) (j + 1)) Q ≡ false)
         lacking o =
-            let (j, l, h) = all-fails (e .total) (λ j. has (isPart (e .slot) (j + 1)) T) (o .lacks) in
-            let h′ : has (isPart (e .slot) (j + 1)) (Q ++ e ∷ R) ≡ false = subst (λ (z : List Entry). has (isPart (e .slot) (j + 1)) z ≡ false) q h in
+            let (j, l, h) = all-fails (e .total) (λ j. hasEntry (isPart (e .slot) (j + 1)) T) (o .lacks) in
+            let h′ : hasEntry (isPart (e .slot) (j + 1)) (Q ++ e ∷ R) ≡ false = subst (λ (z : List Entry). hasEntry (isPart (e .slot) (j + 1)) z ≡ false) q h in
             let here : isPart (e .slot) (j + 1) e ≡ false = all-split (λ x. isPart (e .slot) (j + 1) x ≡ false) Q e R (none-all (isPart (e .slot) (j + 1)) (Q ++ e ∷ R) h′) .1 in
             (j, l, (λ z. clash (isPart (e .slot) (j + 1) e) (part-is (e .slot) (j + 1) e refl (sym z)) here), has-front (isPart (e .slot) (j + 1)) Q (e ∷ R) h′)
 
@@ -146,7 +146,7 @@ made-formed : (n : ℕ) (k : Kind) (log : List Entry) → Slots n → (lent : Li
     → (logFormed n k log ≡ true) × (length log ≤ 75)
 made-formed n k log good lent long m =
     let (xs, cells, w, h) = known n good k lent long log (reach-of n k log good lent long m) in
-    (log-formed n k xs cells log w h, omega (arith, room n k xs cells log w h, good .most))
+    (log-formed n k xs cells log w h, omega (arith, entry-room n k xs cells log w h, good .most))
 
 -- ---- what octets say
 -- of an entry: its part is as long as is noted, if there is room for so many
@@ -158,12 +158,12 @@ record Decoded (e : Entry) : Type 0 where
 decoded : (o : List ℕ) → Octets o → length o ≡ entryOctets → Decoded (entryIn o)
 decoded o b l = record {
   key = record { sender = omega (arith, b 3, b 4, b 5, b 6); serial = omega (arith, b 10, b 11) };
-  octets = small-octets (take-small (getD o 16 0) (drop-small headOctets (octets-small o b)));
+  octets = small-octets (take-small (getD o 16 0) (drop-small entryHead (octets-small o b)));
   size = λ m. simp (length-take, length-drop) (omega arith);
 }
 
 all-decoded : (lent : List ℕ) → Octets lent → length lent ≡ logOctets → (m i : ℕ) → i + m ≤ mostEntries → All Decoded (entriesFrom lent i m)
-unfolding entriesFrom entryAt
+unfolding entriesFrom logEntryAt
 all-decoded lent b long zero i l = nil
 all-decoded lent b long (suc m) i l =
     cons (decoded (take entryOctets (drop (i * entryOctets) lent)) (small-octets (take-small entryOctets (drop-small (i * entryOctets) (octets-small lent b)))) (simp (length-take, length-drop) (omega arith)))
@@ -181,7 +181,7 @@ state-made l lent b long h =
     let log : List Entry = stateIn l lent .log in
     let (h₁, formed) = both (eqb (length lent) logOctets && leb (length (stateIn l lent .log)) mostEntries) (logFormed (l .slots) (l .kind) (stateIn l lent .log)) h in
     let few : length (stateIn l lent .log) ≤ mostEntries = leb-true (length (stateIn l lent .log)) mostEntries (both (eqb (length lent) logOctets) (leb (length (stateIn l lent .log)) mostEntries) h₁ .1) in
-    let ok = formed-tells (l .slots) (l .kind) (stateIn l lent .log) formed .0 in
+    let ok = log-formed-tells (l .slots) (l .kind) (stateIn l lent .log) formed .0 in
     let decode = all-decoded lent b long (l .count) 0 (omega (arith, few, entries-count lent (l .count) 0)) in
     made (l .slots) (l .kind) (stateIn l lent .log) formed few
     (all-weaker (λ e. Ok (l .slots) (l .kind) (stateIn l lent .log) e × Decoded e) EntryInType (stateIn l lent .log) (all-and (Ok (l .slots) (l .kind) (stateIn l lent .log)) Decoded (stateIn l lent .log) ok decode)
@@ -199,7 +199,7 @@ unfolding stateFormed
 slots-of l lent h = of-formed (l .slots) (l .kind) (stateIn l lent .log) (both (eqb (length lent) logOctets && leb (length (stateIn l lent .log)) mostEntries) (logFormed (l .slots) (l .kind) (stateIn l lent .log)) h .1)
 
 -- ---- the calls: a log that passes is not refused 1, and another is
-handed-other : (log : List Entry) (output : List ℕ) (o : Option (List ℕ)) → answersOne (handOut log output o .answer) ≡ false
+handed-other : (log : List Entry) (output : List ℕ) (o : Option (List ℕ)) → answersOne (logHandOut log output o .answer) ≡ false
 handed-other log output none = refl
 handed-other log output (some p) = refl
 
@@ -210,53 +210,53 @@ module _ (n : ℕ) (k : Kind) (log : List Entry) (output : List ℕ) (key : Key)
       go : (b : Bool) → answersOne (cond b (result (heldAlready (e .slot)) (touch (e .slot) (e .rank) log) output) (result (refusedBy 8) log output) .answer) ≡ false
       go true = refl
       go false = refl
-  in-part-other e none = go (complete n k log output key total number octets (e .slot))
+  in-part-other e none = go (logComplete n k log output key total number octets (e .slot))
     where
-      go : (b : Bool) → answersOne (cond b (handOut (close (e .rank) (without (e .slot) log)) output (packetIn k (ofPages key) total (whole n k log output key total number octets (e .slot))))
+      go : (b : Bool) → answersOne (cond b (logHandOut (close (e .rank) (without (e .slot) log)) output (packetIn k (ofPages key) total (whole n k log output key total number octets (e .slot))))
           (result (kept (e .slot) false) (touch (e .slot) (e .rank) log ++ newEntry n k log output key total number octets (e .slot) ∷ []) output) .answer) ≡ false
       go true = handed-other (close (e .rank) (without (e .slot) log)) output (packetIn k (ofPages key) total (whole n k log output key total number octets (e .slot)))
       go false = refl
 
-  new-other : (r : Option ℕ) (o : Option Entry) → first (hasRank n) log ≡ o → answersOne (newSeries n k log output key total number octets r .answer) ≡ false
+  new-other : (r : Option ℕ) (o : Option Entry) → firstEntry (ofRank n) log ≡ o → answersOne (newSeries n k log output key total number octets r .answer) ≡ false
   new-other (some i) o e = refl
   new-other none none e = rw e
   new-other none (some x) e = rw e
 
   for-other : (r : Option Entry) → answersOne (forSeries n k log output key total number octets r .answer) ≡ false
-  for-other none = new-other (freeFrom log 0 n) (first (hasRank n) log) refl
+  for-other none = new-other (freeFrom log 0 n) (firstEntry (ofRank n) log) refl
   for-other (some e) = go (not (eqb (e .total) total))
     where
-      go : (b : Bool) → answersOne (cond b (result (refusedBy 7) log output) (inPart n k log output key total number octets e (first (isPart (e .slot) number) log)) .answer) ≡ false
+      go : (b : Bool) → answersOne (cond b (result (refusedBy 7) log output) (inPart n k log output key total number octets e (firstEntry (isPart (e .slot) number) log)) .answer) ≡ false
       go true = refl
-      go false = in-part-other e (first (isPart (e .slot) number) log)
+      go false = in-part-other e (firstEntry (isPart (e .slot) number) log)
 
-  part-other : answersOne (takePart n k log output key total number octets .answer) ≡ false
-  unfolding takePart
-  part-other = for-other (first (hasKey key) log)
+  part-other : answersOne (logTakePart n k log output key total number octets .answer) ≡ false
+  unfolding logTakePart
+  part-other = for-other (firstEntry (hasKey key) log)
 
-taken-other : (n : ℕ) (k : Kind) (log : List Entry) (output : List ℕ) (paged : Bool) (o : List ℕ) (b : reading.Outcome Brought) → byOne b ≡ false → answersOne (taken n k log output paged o b .answer) ≡ false
+taken-other : (n : ℕ) (k : Kind) (log : List Entry) (output : List ℕ) (paged : Bool) (o : List ℕ) (b : reading.Outcome Brought) → byOne b ≡ false → answersOne (logTaken n k log output paged o b .answer) ≡ false
 taken-other n k log output paged o (reading.refused m) e = e
 taken-other n k log output paged o (reading.gives (single start)) e = handed-other log output (packetIn k paged 1 (drop start o))
 taken-other n k log output paged o (reading.gives (part key total number start)) e = part-other n k log output key total number (drop start o)
 
-taking-other : (s : State) (output : List ℕ) (i : Input) → length output ≡ mostOctets → stateFormed s ≡ true → answersOne (takeInput s output i .answer) ≡ false
+taking-other : (s : LogState) (output : List ℕ) (i : Input) → length output ≡ mostOctets → stateFormed s ≡ true → answersOne (logTakeInput s output i .answer) ≡ false
 taking-other s output i long f =
-    ap (λ (a : After). answersOne (a .answer)) (plain-comes s output i)
+    ap (λ (a : AfterLog). answersOne (a .answer)) (plain-comes s output i)
     ∙ rw (f, eq-eqb (length output) mostOctets long) (taken-other (s .slots) (s .kind) (s .log) output (isPage i) (octetsOf i) (read (s .kind) i) (read-other (s .kind) i))
 
-taking-one : (s : State) (output : List ℕ) (i : Input) → stateFormed s ≡ false → takeInput s output i .answer ≡ refusedBy 1
-taking-one s output i f = ap (λ (a : After). a .answer) (plain-comes s output i) ∙ rw f
+taking-one : (s : LogState) (output : List ℕ) (i : Input) → stateFormed s ≡ false → logTakeInput s output i .answer ≡ refusedBy 1
+taking-one s output i f = ap (λ (a : AfterLog). a .answer) (plain-comes s output i) ∙ rw f
 
-beat-other : (s : State) (limit : ℕ) → stateFormed s ≡ true → byOne (beat s limit .answer) ≡ false
-unfolding beat
+beat-other : (s : LogState) (limit : ℕ) → stateFormed s ≡ true → byOne (logBeat s limit .answer) ≡ false
+unfolding logBeat
 beat-other s limit f = rw f (go (eqb limit 0))
   where
-    go : (z : Bool) → byOne (leavesBeat s limit (refuse 18 when z otherwise reading.gives (droppedBy (s .slots) limit (s .log))) .answer) ≡ false
+    go : (z : Bool) → byOne (leavesLogBeat s limit (refuse 18 when z otherwise reading.gives (logDropped (s .slots) limit (s .log))) .answer) ≡ false
     go true = refl
     go false = refl
 
-beat-one : (s : State) (limit : ℕ) → stateFormed s ≡ false → beat s limit .answer ≡ reading.refused 1
-unfolding beat
+beat-one : (s : LogState) (limit : ℕ) → stateFormed s ≡ false → logBeat s limit .answer ≡ reading.refused 1
+unfolding logBeat
 beat-one s limit f = rw f
 
 module _ (l : Log) (lent : List ℕ) (b : Octets lent) (long : length lent ≡ logOctets) where
@@ -286,7 +286,7 @@ log-acceptance = record {
       known n good k zeros zeros-long log (reach-of n k log good zeros zeros-long (made n k log formed few types zeros zeros-long));
   tested = tested;
   taking = λ l lent b long output size i.
-      by-formed l lent b long (λ one t. clash (answersOne (takeInput (stateIn l lent) output i .answer)) (ap answersOne one) (taking-other (stateIn l lent) output i size t)) (taking-one (stateIn l lent) output i);
+      by-formed l lent b long (λ once-more t. clash (answersOne (logTakeInput (stateIn l lent) output i .answer)) (ap answersOne once-more) (taking-other (stateIn l lent) output i size t)) (taking-one (stateIn l lent) output i);
   beating = λ l lent b long limit.
-      by-formed l lent b long (λ one t. clash (byOne (beat (stateIn l lent) limit .answer)) (ap byOne one) (beat-other (stateIn l lent) limit t)) (beat-one (stateIn l lent) limit);
+      by-formed l lent b long (λ once-more t. clash (byOne (logBeat (stateIn l lent) limit .answer)) (ap byOne once-more) (beat-other (stateIn l lent) limit t)) (beat-one (stateIn l lent) limit);
 }

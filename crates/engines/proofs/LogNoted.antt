@@ -21,9 +21,9 @@ use Rattle.slots.specs.Slots.{slotAt, heldAt, aged}
 use Rattle.formed.specs.Formed.{mostBeats}
 use Rattle.formed.specs.Laws.{Formed}
 use Rattle.plain.specs.Entries.{Entry, logOctets}
-use Rattle.plain.specs.Log.{first, has, hasKey, ofSlot, isPart, hasRank, noted, touched, touch, living, older, logAfterBeat}
-use Rattle.plain.specs.Same.{All, nil, cons, Fits, Same}
-use Rattle.plain.specs.Walks.{is-part, first-tells, Finds, hit, miss, finds?, has-tells, all-weaker, all-map, all-and}
+use Rattle.plain.specs.Log.{firstEntry, hasEntry, hasKey, ofSlot, isPart, ofRank, notedAs, touched, touch, living, older, logAfterBeat}
+use Rattle.plain.specs.Same.{All, nil, cons, Fits, SameLog}
+use Rattle.plain.specs.Walks.{is-part, first-tells, Finds, finds-one, finds-none, finds?, has-tells, all-weaker, all-map, all-and}
 use Rattle.plain.specs.Copies.{has-key}
 use Rattle.plain.specs.Tells.{Ok}
 use Rattle.sequences.specs.Runs.{Slots}
@@ -44,7 +44,7 @@ module _ (n : ℕ) (good : Slots n) (k : Kind) (lent : List ℕ) (long : length 
   -- what an entry of either log is, whatever is noted in it
   record Own (x : Entry) : Type 0 where
     brought : Bringable k (x .key) (x .total) (x .number) (x .octets)
-    there : has (ofSlot (x .slot)) T ≡ true
+    there : hasEntry (ofSlot (x .slot)) T ≡ true
     some-rank : 0 < ρ (x .slot)
     top : ρ (x .slot) ≤ n
     few : β (x .slot) ≤ mostBeats
@@ -117,7 +117,7 @@ module _ (n : ℕ) (good : Slots n) (k : Kind) (lent : List ℕ) (long : length 
       c-is : b (suc t) ≡ β (e .slot)
       c-is = count-here n k T ok e e-in t rank ∙ sym (noted-beats n k T ok e e-in)
 
-      module _ (xs : List Slot) (cells : List ℕ) (w : Formed n k xs) (h : Same n xs cells L) where
+      module _ (xs : List Slot) (cells : List ℕ) (w : Formed n k xs) (h : SameLog n xs cells L) where
         record Seen (x : Entry) : Type 0 where
           own-of : Own x
           fits : Fits n xs cells x
@@ -247,8 +247,8 @@ module _ (n : ℕ) (good : Slots n) (k : Kind) (lent : List ℕ) (long : length 
             let is : p .octets ≡ x .octets = sym (g .octets) ∙ rw (ps, pn, e) (f .octets) in
             subst (λ (o : List ℕ). sameOctets (p .octets) o ≡ true) is (same-self (p .octets))
 
-        repeated : (x : Entry) → Seen x → x .slot ≡ e .slot → (y : Entry) → first (hasKey (x .key)) L ≡ some y → Seen y → y .slot ≡ x .slot
-            → (p : Entry) → first (isPart (y .slot) (x .number)) L ≡ some p → sameOctets (p .octets) (x .octets) ≡ true → (M : List Entry) × Stage t (b (suc t)) M
+        repeated : (x : Entry) → Seen x → x .slot ≡ e .slot → (y : Entry) → firstEntry (hasKey (x .key)) L ≡ some y → Seen y → y .slot ≡ x .slot
+            → (p : Entry) → firstEntry (isPart (y .slot) (x .number)) L ≡ some p → sameOctets (p .octets) (x .octets) ≡ true → (M : List Entry) × Stage t (b (suc t)) M
         repeated x qx px y found qy e-slot p fp a =
             let total : y .total ≡ x .total = sym (qy .fits .total) ∙ ap (λ (j : ℕ). slotAt xs j .total) e-slot ∙ qx .fits .total in (
               touch (y .slot) (y .rank) L,
@@ -257,7 +257,7 @@ module _ (n : ℕ) (good : Slots n) (k : Kind) (lent : List ℕ) (long : length 
                   (repeats-log n k L blank (x .key) (x .total) (x .number) (x .octets) y found (eq-eqb (y .total) (x .total) total) p fp a)),
             )
 
-        with-key : (x : Entry) → Seen x → x .slot ≡ e .slot → (y : Entry) → first (hasKey (x .key)) L ≡ some y → Seen y → hasKey (x .key) y ≡ true → (M : List Entry) × Stage t (b (suc t)) M
+        with-key : (x : Entry) → Seen x → x .slot ≡ e .slot → (y : Entry) → firstEntry (hasKey (x .key)) L ≡ some y → Seen y → hasKey (x .key) y ≡ true → (M : List Entry) × Stage t (b (suc t)) M
         with-key x qx px y found qy t-key =
             let e-slot : y .slot ≡ x .slot = one-slot-of x y (qx .fits) (qy .fits) t-key in
             let held : heldAt (slotAt xs (y .slot)) (x .number) ≡ true = ap (λ (j : ℕ). heldAt (slotAt xs j) (x .number)) e-slot ∙ qx .fits .held in
@@ -282,11 +282,11 @@ module _ (n : ℕ) (good : Slots n) (k : Kind) (lent : List ℕ) (long : length 
 
     -- ---- all of them
     next : (t : ℕ) (L : List Entry) → Stage (suc t) (b (suc t)) L → (M : List Entry) × Stage t (b t) M
-    next t L s = go (first (hasRank (suc t)) T) (finds? (hasRank (suc t)) T)
+    next t L s = go (firstEntry (ofRank (suc t)) T) (finds? (ofRank (suc t)) T)
       where
-        go : (r : Option Entry) → Finds (hasRank (suc t)) T r → (M : List Entry) × Stage t (b t) M
-        go r (hit e q) =
-            let (d, z) = first-tells (In n k T) (hasRank (suc t)) T (all-in n k T ok) e q in
+        go : (r : Option Entry) → Finds (ofRank (suc t)) T r → (M : List Entry) × Stage t (b t) M
+        go r (finds-one e q) =
+            let (d, z) = first-tells (In n k T) (ofRank (suc t)) T (all-in n k T ok) e q in
             let rank : e .rank ≡ suc t = eqb-true (e .rank) (suc t) z in
             let (M, m) = one-touch t e d rank L s in
             let less : b t ≤ b (suc t) = omega (arith, count-here n k T ok e d t rank, count-below n k T ok e d t (omega arith)) in
@@ -297,7 +297,7 @@ module _ (n : ℕ) (good : Slots n) (k : Kind) (lent : List ℕ) (long : length 
               where
                 gap : b t ≤ b (suc t) → (d : ℕ) × (b (suc t) ≡ b t + d)
                 gap l = (b (suc t) - b t, omega arith)
-        go r (miss q) = (
+        go r (finds-none q) = (
           L,
           record {
             reach = s .reach;
@@ -315,7 +315,7 @@ module _ (n : ℕ) (good : Slots n) (k : Kind) (lent : List ℕ) (long : length 
             nobody x o l =
                 let (e, d, z) = found-in n k T ok (ofSlot (x .slot)) (o .there) in
                 let r : ρ (x .slot) ≡ e .rank = ap (λ (j : ℕ). ρ j) (sym (eqb-true (e .slot) (x .slot) z)) ∙ noted-rank n k T ok e d in
-                clash (has (hasRank (suc t)) T) (no-gap n k T ok (e .rank - suc t) t e d (omega arith)) q
+                clash (hasEntry (ofRank (suc t)) T) (no-gap n k T ok (e .rank - suc t) t e d (omega arith)) q
 
     all-ranks : (t : ℕ) (L : List Entry) → Stage t (b t) L → (M : List Entry) × Stage 0 (b 0) M
     all-ranks zero L s = (L, s)
@@ -323,7 +323,7 @@ module _ (n : ℕ) (good : Slots n) (k : Kind) (lent : List ℕ) (long : length 
 
     -- ---- then nothing is left to differ
     abbrev noteBy : Entry → Entry
-    noteBy e = noted (ρ (e .slot)) (β (e .slot)) e
+    noteBy e = notedAs (ρ (e .slot)) (β (e .slot)) e
 
     by-bares : (L : List Entry) → map noteBy (bares L) ≡ map noteBy L
     by-bares [] = refl
@@ -331,7 +331,7 @@ module _ (n : ℕ) (good : Slots n) (k : Kind) (lent : List ℕ) (long : length 
 
     as-noted : (L : List Entry) → All (λ e. (ρ (e .slot) ≡ e .rank) × (β (e .slot) ≡ e .beats)) L → map noteBy L ≡ L
     as-noted [] nil = refl
-    as-noted (e ∷ L) (cons (p, q) t) = let ih = as-noted L t in λ i. noted (p i) (q i) e ∷ ih i
+    as-noted (e ∷ L) (cons (p, q) t) = let ih = as-noted L t in λ i. notedAs (p i) (q i) e ∷ ih i
 
     ends : (L : List Entry) → Stage 0 0 L → L ≡ T
     ends L s =

@@ -16,10 +16,10 @@ use Rattle.arrival.specs.Keys.{keyFormed, totalFits, lengthFits}
 use Rattle.formed.specs.Laws.{Formed}
 use Rattle.cells.specs.Cells.{cellsSize}
 use Rattle.series.specs.Calls.{Input, octetsOf, read}
-use Rattle.plain.specs.Entries.{Entry, logOctets, entriesFrom, State}
-use Rattle.plain.specs.Log.{takePart, logAfterBeat}
-use Rattle.plain.specs.Engine.{After, stateFormed, taken, takeInput, beat}
-use Rattle.plain.specs.Same.{Same}
+use Rattle.plain.specs.Entries.{Entry, logOctets, entriesFrom, LogState}
+use Rattle.plain.specs.Log.{logTakePart, logAfterBeat}
+use Rattle.plain.specs.Engine.{AfterLog, stateFormed, logTaken, logTakeInput, logBeat}
+use Rattle.plain.specs.Same.{SameLog}
 use Rattle.series.specs.CallLaws.{isPage}
 use Rattle.plain.specs.Equal.{plain-comes, together-formed}
 use Rattle.sequences.specs.Runs.{Slots, Call, Event, takes, beats, Store, fresh, run, Proper, Each}
@@ -42,18 +42,18 @@ pub record Bringable (k : Kind) (key : Key) (total number : ℕ) (own : List ℕ
   pub high : number ≤ total
   pub length-fits : lengthFits key number (length own) ≡ true
 
-run-on : (s : State) (u v : List Event) → plainRun s (u ++ v) ≡ plainRun (plainRun s u) v
+run-on : (s : LogState) (u v : List Event) → plainRun s (u ++ v) ≡ plainRun (plainRun s u) v
 run-on s [] v = refl
 run-on s (e ∷ u) v = run-on (plainBy s e) u v
 
 abbrev pub blank : List ℕ
 blank = replicate mostOctets 0
 
-taking-log : (s : State) (i : Input) → stateFormed s ≡ true → takeInput s blank i .state .log ≡ taken (s .slots) (s .kind) (s .log) blank (isPage i) (octetsOf i) (read (s .kind) i) .log
-taking-log s i f = ap (λ (a : After). a .state .log) (plain-comes s blank i) ∙ rw f
+taking-log : (s : LogState) (i : Input) → stateFormed s ≡ true → logTakeInput s blank i .state .log ≡ logTaken (s .slots) (s .kind) (s .log) blank (isPage i) (octetsOf i) (read (s .kind) i) .log
+taking-log s i f = ap (λ (a : AfterLog). a .state .log) (plain-comes s blank i) ∙ rw f
 
-beat-log : (s : State) (limit : ℕ) → stateFormed s ≡ true → (limit ≡ 0 → ⊥) → beat s limit .state .log ≡ logAfterBeat limit (s .log)
-unfolding beat
+beat-log : (s : LogState) (limit : ℕ) → stateFormed s ≡ true → (limit ≡ 0 → ⊥) → logBeat s limit .state .log ≡ logAfterBeat limit (s .log)
+unfolding logBeat
 beat-log s limit f ne = rw (f, ne-eqb limit 0 ne)
 
 module _ (n : ℕ) (good : Slots n) (k : Kind) (lent : List ℕ) (long : length lent ≡ logOctets) where
@@ -73,7 +73,7 @@ module _ (n : ℕ) (good : Slots n) (k : Kind) (lent : List ℕ) (long : length 
     proper : Each Proper (r .events)
     proper = λ u e v q. each Possible (r .events) (r .possible) u e v q .proper
 
-    s : State
+    s : LogState
     s = plainAfter n k lent (r .events)
 
     st : Store
@@ -98,15 +98,15 @@ module _ (n : ℕ) (good : Slots n) (k : Kind) (lent : List ℕ) (long : length 
     is-log = r .lead
 
     -- the record and the cells that it is the same as
-    pub known : (xs : List Slot) × (c : List ℕ) × Formed n k xs × Same n xs c log
+    pub known : (xs : List Slot) × (c : List ℕ) × Formed n k xs × SameLog n xs c log
     known = (
       st .rec .slots,
       st .cells,
       subst (λ (q : Kind). Formed n q (st .rec .slots)) (stays .kind) (stays .sound .formed),
-      subst (λ (m : ℕ). Same m (st .rec .slots) (st .cells) log) (joint .slots) (subst (λ (l : List Entry). Same (s .slots) (st .rec .slots) (st .cells) l) is-log (joint .together .same)),
+      subst (λ (m : ℕ). SameLog m (st .rec .slots) (st .cells) log) (joint .slots) (subst (λ (l : List Entry). SameLog (s .slots) (st .rec .slots) (st .cells) l) is-log (joint .together .same)),
     )
 
-    pub reach-part : (key : Key) (total number : ℕ) (own : List ℕ) → Bringable k key total number own → (after : List Entry) → takePart n k log blank key total number own .log ≡ after → Reach after
+    pub reach-part : (key : Key) (total number : ℕ) (own : List ℕ) → Bringable k key total number own → (after : List Entry) → logTakePart n k log blank key total number own .log ≡ after → Reach after
     unfolding s
     reach-part key total number own b after does =
         let br = can-bring-own k key total number own (b .small) (b .fits) (b .key-formed) (b .total-fits) (b .low) (b .high) (b .length-fits) in
@@ -114,13 +114,13 @@ module _ (n : ℕ) (good : Slots n) (k : Kind) (lent : List ℕ) (long : length 
         let i : Input = br .input in record {
           events = r .events ++ takes c ∷ [];
           possible = all-more Possible (r .events) (takes c) (r .possible) (record { proper = record { output = length-replicate {A = ℕ} mostOctets 0; octets = br .octets }; sender = br .sender });
-          lead = ap (λ (x : State). x .log) (run-on (plainFresh n k lent) (r .events) (takes c ∷ []))
+          lead = ap (λ (x : LogState). x .log) (run-on (plainFresh n k lent) (r .events) (takes c ∷ []))
               ∙ taking-log s i formed
-              ∙ ap (λ (m : ℕ). taken m (s .kind) (s .log) blank (isPage i) (octetsOf i) (read (s .kind) i) .log) (joint .slots)
-              ∙ ap (λ (q : Kind). taken n q (s .log) blank (isPage i) (octetsOf i) (read q i) .log) same-kind
-              ∙ ap (λ (l : List Entry). taken n k l blank (isPage i) (octetsOf i) (read k i) .log) is-log
-              ∙ ap (λ (o : reading.Outcome Brought). taken n k log blank (isPage i) (octetsOf i) o .log) (br .is)
-              ∙ ap (λ (o : List ℕ). takePart n k log blank key total number o .log) (br .brings)
+              ∙ ap (λ (m : ℕ). logTaken m (s .kind) (s .log) blank (isPage i) (octetsOf i) (read (s .kind) i) .log) (joint .slots)
+              ∙ ap (λ (q : Kind). logTaken n q (s .log) blank (isPage i) (octetsOf i) (read q i) .log) same-kind
+              ∙ ap (λ (l : List Entry). logTaken n k l blank (isPage i) (octetsOf i) (read k i) .log) is-log
+              ∙ ap (λ (o : reading.Outcome Brought). logTaken n k log blank (isPage i) (octetsOf i) o .log) (br .is)
+              ∙ ap (λ (o : List ℕ). logTakePart n k log blank key total number o .log) (br .brings)
               ∙ does;
         }
 
@@ -129,6 +129,6 @@ module _ (n : ℕ) (good : Slots n) (k : Kind) (lent : List ℕ) (long : length 
     reach-beat limit low high after does = record {
       events = r .events ++ beats limit ∷ [];
       possible = all-more Possible (r .events) (beats limit) (r .possible) (record { proper = high; sender = tt });
-      lead = ap (λ (x : State). x .log) (run-on (plainFresh n k lent) (r .events) (beats limit ∷ []))
+      lead = ap (λ (x : LogState). x .log) (run-on (plainFresh n k lent) (r .events) (beats limit ∷ []))
           ∙ beat-log s limit formed (λ z. omega arith) ∙ ap (logAfterBeat limit) is-log ∙ does;
     }

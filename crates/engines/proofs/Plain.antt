@@ -13,8 +13,8 @@ use Rattle.beats.specs.Beats as first
 use Rattle.cells.specs.Cells.{cellsSize}
 use Rattle.series.specs.Taking.{After, kept, heldAlready, state}
 use Rattle.series.specs.Calls.{takeInput}
-use Rattle.plain.specs.Entries.{logOctets, State}
-use Rattle.plain.specs.Engine.{beat}
+use Rattle.plain.specs.Entries.{logOctets, LogState}
+use Rattle.plain.specs.Engine.{logBeat}
 use Rattle.plain.specs.Equal.{Together, EqualCall, EqualBeat, fresh-together, at-most, together-formed, together-read, call-equal, beat-equal, taking-slots, beat-slots}
 use Rattle.sequences.specs.Runs.{Slots, Call, Event, takes, beats, Store, fresh, outcome, left, leftBy, run, ProperCall, Proper, Each}
 use Rattle.sequences.specs.Timely.{FewerThanLeast, InTime}
@@ -22,7 +22,7 @@ use Rattle.sequences.specs.Wake.{History, begin, follow, WakeWindow, Served, ag
 use Rattle.shuffles.specs.Others.{View, ofAnother, withoutOthers, OthersUnseen}
 use Rattle.shuffles.specs.Shuffled.{AnyStore, BringsPart, Exchanged}
 use Rattle.engines.specs.Plain as plain
-use Rattle.engines.specs.Plain.{told, toldOfBeat, toldBy, toldOver, plainOutcome, plainBy, plainRun, plainToldBy, plainToldOver, plainFresh, plainAfter, Lent, EnginesEqual, AlwaysInStep, ServedPlainly, PlainWakeWindow, PlainOthersUnseen, PlainKeptThenHeld, PlainExchanged, PlainEitherOrder, PlainEngine}
+use Rattle.engines.specs.Plain.{heard, toldOfBeat, toldBy, toldOver, plainOutcome, plainBy, plainRun, plainToldBy, plainToldOver, plainFresh, plainAfter, LentBoth, EnginesEqual, AlwaysInStep, ServedPlainly, PlainWakeWindow, PlainOthersUnseen, PlainKeptThenHeld, PlainExchanged, PlainEitherOrder, PlainEngine}
 use Rattle.sequences.proofs.Along.{All, each, all-of, run-more, store-run}
 use Rattle.sequences.proofs.Calls.{Kept, kept-fresh}
 use Rattle.sequences.proofs.Wake as wake
@@ -49,19 +49,19 @@ all-without k K Claim (e ∷ u) a = go (ofAnother k K e) (all-without k K Claim 
     go false r = (a .0, r)
 
 -- ---- one event
-pub record Joint (n : ℕ) (s : State) (st : Store) : Type 0 where
+pub record Joint (n : ℕ) (s : LogState) (st : Store) : Type 0 where
   pub slots : s .slots ≡ n
   pub together : Together s (st .rec) (st .cells)
 
-module _ (n : ℕ) (s : State) (st : Store) (j : Joint n s st) where
+module _ (n : ℕ) (s : LogState) (st : Store) (j : Joint n s st) where
   equal-call : (c : Call) → ProperCall c → EqualCall (plainOutcome s c) (outcome n st c)
   equal-call c p =
       subst (λ (m : ℕ). EqualCall (plainOutcome s c) (takeInput m (state (st .rec) (st .cells) (c .output)) (c .input))) (j .slots)
       (call-equal s (st .rec) (st .cells) (j .together) (c .output) (p .output) (c .input) (p .octets))
 
-  equal-beat : (limit : ℕ) → Proper (beats limit) → EqualBeat (beat s limit) (first.beat n (st .rec) limit) (st .cells)
+  equal-beat : (limit : ℕ) → Proper (beats limit) → EqualBeat (logBeat s limit) (first.beat n (st .rec) limit) (st .cells)
   equal-beat limit p =
-      subst (λ (m : ℕ). EqualBeat (beat s limit) (first.beat m (st .rec) limit) (st .cells)) (j .slots) (beat-equal s (st .rec) (st .cells) (j .together) limit p)
+      subst (λ (m : ℕ). EqualBeat (logBeat s limit) (first.beat m (st .rec) limit) (st .cells)) (j .slots) (beat-equal s (st .rec) (st .cells) (j .together) limit p)
 
   joint-by : (e : Event) → Proper e → Joint n (plainBy s e) (leftBy n st e)
   joint-by (takes c) p = record { slots = taking-slots s (c .output) (c .input) ∙ j .slots; together = equal-call c p .together }
@@ -71,18 +71,18 @@ module _ (n : ℕ) (s : State) (st : Store) (j : Joint n s st) where
   told-by (takes c) p =
       let a = equal-call c p .answer in
       let o = equal-call c p .output in
-      λ i. told (a i) (o i)
+      λ i. heard (a i) (o i)
   told-by (beats limit) p = ap toldOfBeat (equal-beat limit p .answer)
 
   read-joint : plain.readOf n (st .rec .kind) s ≡ st .rec
   read-joint = together-read s (st .rec) (st .cells) (j .together)
 
 -- ---- all events
-joint-run : (n : ℕ) (events : List Event) (s : State) (st : Store) → Joint n s st → All Proper events → Joint n (plainRun s events) (run n st events)
+joint-run : (n : ℕ) (events : List Event) (s : LogState) (st : Store) → Joint n s st → All Proper events → Joint n (plainRun s events) (run n st events)
 joint-run n [] s st j a = j
 joint-run n (e ∷ es) s st j a = joint-run n es (plainBy s e) (leftBy n st e) (joint-by n s st j e (a .0)) (a .1)
 
-told-over : (n : ℕ) (events : List Event) (s : State) (st : Store) → Joint n s st → All Proper events → plainToldOver s events ≡ toldOver n st events
+told-over : (n : ℕ) (events : List Event) (s : LogState) (st : Store) → Joint n s st → All Proper events → plainToldOver s events ≡ toldOver n st events
 told-over n [] s st j a = refl
 told-over n (e ∷ es) s st j a =
     let here = told-by n s st j e (a .0) in
@@ -90,10 +90,10 @@ told-over n (e ∷ es) s st j a =
     λ i. here i ∷ rest i
 
 module _ (n : ℕ) (good : Slots n) (k : Kind) where
-  joint-fresh : (cells lent : List ℕ) → Lent n k cells lent → Joint n (plainFresh n k lent) (fresh n k cells)
+  joint-fresh : (cells lent : List ℕ) → LentBoth n k cells lent → Joint n (plainFresh n k lent) (fresh n k cells)
   joint-fresh cells lent l = record { slots = refl; together = fresh-together n k cells lent (good .some) (good .most) (l .for-cells) (l .for-log) }
 
-  pub joint-after : (cells lent : List ℕ) → Lent n k cells lent → (events : List Event) → Each Proper events → Joint n (plainAfter n k lent events) (run n (fresh n k cells) events)
+  pub joint-after : (cells lent : List ℕ) → LentBoth n k cells lent → (events : List Event) → Each Proper events → Joint n (plainAfter n k lent events) (run n (fresh n k cells) events)
   joint-after cells lent l events all = joint-run n events (plainFresh n k lent) (fresh n k cells) (joint-fresh cells lent l) (all-of Proper events all)
 
   pub engines-equal : EnginesEqual n k
@@ -102,7 +102,7 @@ module _ (n : ℕ) (good : Slots n) (k : Kind) where
   pub always-in-step : AlwaysInStep n k
   always-in-step cells lent l events all =
       let t = joint-after cells lent l events all .together in
-      let s : State = plainAfter n k lent events in
+      let s : LogState = plainAfter n k lent events in
       let st : Store = run n (fresh n k cells) events in record {
         accepted = together-formed s (st .rec) (st .cells) t;
         few = at-most s (st .rec) (st .cells) t;
@@ -153,18 +153,18 @@ module _ (n : ℕ) (good : Slots n) (k : Kind) where
         proper-c = start .proper u (takes c) v (of .split)
 
         seen : toldBy n (run n (fresh n k cells) (earlier ++ u)) (takes c) ≡ toldBy n (run n (fresh n k cells) (earlier ++ withoutOthers k K u)) (takes c)
-        seen = ap (λ (x : View). told (x .answer) (x .output)) (unseen cells earlier opening calls start u c v of .same)
+        seen = ap (λ (x : View). heard (x .answer) (x .output)) (unseen cells earlier opening calls start u c v of .same)
 
   -- ---- order and repetition
   module _ (lent : List ℕ) (long : length lent ≡ logOctets) (events : List Event) (all : Each Proper events) where
     cells : List ℕ
     cells = replicate (cellsSize n) 0
 
-    both-lent : Lent n k cells lent
+    both-lent : LentBoth n k cells lent
     unfolding cells
     both-lent = record { for-cells = length-replicate {A = ℕ} (cellsSize n) 0; for-log = long }
 
-    s₀ : State
+    s₀ : LogState
     s₀ = plainAfter n k lent events
 
     st₀ : Store
@@ -186,15 +186,15 @@ module _ (n : ℕ) (good : Slots n) (k : Kind) where
 
     repeated-part : (K : Key) (total number : ℕ) (own : List ℕ) (c d : Call) → BringsPart k K total number own c → BringsPart k K total number own d → (slot : ℕ) (mark : Bool)
         → plainOutcome s₀ c .answer ≡ kept slot mark
-        → (plainToldBy (plainOutcome s₀ c .state) (takes d) ≡ told (heldAlready slot) (d .output))
+        → (plainToldBy (plainOutcome s₀ c .state) (takes d) ≡ heard (heldAlready slot) (d .output))
         × (plain.readOf n k (plainOutcome (plainOutcome s₀ c .state) d .state) ≡ plain.readOf n k (plainOutcome s₀ c .state))
     repeated-part K total number own c d b b′ slot mark e =
         let j₁ = joint-by n s₀ st₀ j₀ (takes c) (b .proper) in
         let st₁ : Store = left (outcome n st₀ c) in
-        let s₁ : State = plainOutcome s₀ c .state in
+        let s₁ : LogState = plainOutcome s₀ c .state in
         let j₂ = joint-by n s₁ st₁ j₁ (takes d) (b′ .proper) in
         let h = shuffled.kept-then-held n k st₀ any-store K total number own c d b b′ slot mark (sym (equal-call n s₀ st₀ j₀ c (b .proper) .answer) ∙ e) in (
-          told-by n s₁ st₁ j₁ (takes d) (b′ .proper) ∙ ap (λ (a : After). told (a .answer) (a .state .output)) h,
+          told-by n s₁ st₁ j₁ (takes d) (b′ .proper) ∙ ap (λ (a : After). heard (a .answer) (a .state .output)) h,
           read-joint n (plainOutcome s₁ d .state) (left (outcome n st₁ d)) j₂ ∙ ap (λ (a : After). a .state .rec) h ∙ sym (read-joint n s₁ st₁ j₁),
         )
 
@@ -205,8 +205,8 @@ module _ (n : ℕ) (good : Slots n) (k : Kind) where
     exchanged-parts K total total′ number number′ own own′ c d b b′ ne slot mark e slot′ mark′ f =
         let jc = joint-by n s₀ st₀ j₀ (takes c) (b .proper) in
         let jd = joint-by n s₀ st₀ j₀ (takes d) (b′ .proper) in
-        let sc : State = plainOutcome s₀ c .state in
-        let sd : State = plainOutcome s₀ d .state in
+        let sc : LogState = plainOutcome s₀ c .state in
+        let sd : LogState = plainOutcome s₀ d .state in
         let stc : Store = left (outcome n st₀ c) in
         let std : Store = left (outcome n st₀ d) in
         let x : Exchanged n st₀ c d slot mark slot′ mark′ =

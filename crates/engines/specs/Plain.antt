@@ -19,9 +19,9 @@ use Rattle.cells.specs.Cells.{cellsSize}
 use Rattle.series.specs.Taking.{Answer, kept, heldAlready, packet, refusedBy}
 use Rattle.series.specs.Calls.{Input, read}
 use Rattle.types.specs.declared.Log.{Log}
-use Rattle.plain.specs.Entries.{Entry, mostEntries, logOctets, State, stateIn}
-use Rattle.plain.specs.Engine.{After, freshLog, logFormed, stateFormed, takeInput, beat}
-use Rattle.plain.specs.Same.{All, Same}
+use Rattle.plain.specs.Entries.{Entry, mostEntries, logOctets, LogState, stateIn}
+use Rattle.plain.specs.Engine.{AfterLog, freshLog, logFormed, stateFormed, logTakeInput, logBeat}
+use Rattle.plain.specs.Same.{All, SameLog}
 use Rattle.plain.specs.ReadOff.{recordOf}
 use Rattle.sequences.specs.Lists.{elem, add, complete}
 use Rattle.sequences.specs.Runs.{Slots, Call, Event, takes, beats, Store, fresh, outcome, leftBy, run, Proper, Each}
@@ -32,68 +32,68 @@ use Rattle.shuffles.specs.Shuffled.{BringsPart}
 
 -- ---- the same events through both engines
 -- what a caller is told: by a call the answer and every octet of the output, by a beat its answer
-pub data Told : Type 0 where
-  told : Answer → (output : List ℕ) → Told
-  toldOfBeat : reading.Outcome ℕ → Told
+pub data Heard : Type 0 where
+  heard : Answer → (output : List ℕ) → Heard
+  toldOfBeat : reading.Outcome ℕ → Heard
 
-abbrev pub toldBy : ℕ → Store → Event → Told
-toldBy n st (takes c) = told (outcome n st c .answer) (outcome n st c .state .output)
+abbrev pub toldBy : ℕ → Store → Event → Heard
+toldBy n st (takes c) = heard (outcome n st c .answer) (outcome n st c .state .output)
 toldBy n st (beats limit) = toldOfBeat (first.beat n (st .rec) limit .answer)
 
-abbrev pub toldOver : ℕ → Store → List Event → List Told
+abbrev pub toldOver : ℕ → Store → List Event → List Heard
 toldOver n st [] = []
 toldOver n st (e ∷ es) = toldBy n st e ∷ toldOver n (leftBy n st e) es
 
 -- the plain engine's: what a call comes to, what an event leaves, and what the caller is told
-abbrev pub plainOutcome : State → Call → After
-plainOutcome s c = takeInput s (c .output) (c .input)
+abbrev pub plainOutcome : LogState → Call → AfterLog
+plainOutcome s c = logTakeInput s (c .output) (c .input)
 
-abbrev pub plainBy : State → Event → State
+abbrev pub plainBy : LogState → Event → LogState
 plainBy s (takes c) = plainOutcome s c .state
-plainBy s (beats limit) = beat s limit .state
+plainBy s (beats limit) = logBeat s limit .state
 
-abbrev pub plainRun : State → List Event → State
+abbrev pub plainRun : LogState → List Event → LogState
 plainRun s [] = s
 plainRun s (e ∷ es) = plainRun (plainBy s e) es
 
-abbrev pub plainToldBy : State → Event → Told
-plainToldBy s (takes c) = told (plainOutcome s c .answer) (plainOutcome s c .output)
-plainToldBy s (beats limit) = toldOfBeat (beat s limit .answer)
+abbrev pub plainToldBy : LogState → Event → Heard
+plainToldBy s (takes c) = heard (plainOutcome s c .answer) (plainOutcome s c .output)
+plainToldBy s (beats limit) = toldOfBeat (logBeat s limit .answer)
 
-abbrev pub plainToldOver : State → List Event → List Told
+abbrev pub plainToldOver : LogState → List Event → List Heard
 plainToldOver s [] = []
 plainToldOver s (e ∷ es) = plainToldBy s e ∷ plainToldOver (plainBy s e) es
 
 module _ (n : ℕ) (k : Kind) where
   -- a fresh log, in octets that hold anything, and what events lead to from it
-  abbrev pub plainFresh : List ℕ → State
+  abbrev pub plainFresh : List ℕ → LogState
   plainFresh lent = stateIn (freshLog n k) lent
 
-  abbrev pub plainAfter : List ℕ → List Event → State
+  abbrev pub plainAfter : List ℕ → List Event → LogState
   plainAfter lent events = plainRun (plainFresh lent) events
 
   -- buffers of their right lengths
-  pub record Lent (cells lent : List ℕ) : Type 0 where
+  pub record LentBoth (cells lent : List ℕ) : Type 0 where
     pub for-cells : length cells ≡ cellsSize n
     pub for-log : length lent ≡ logOctets
 
   -- THE ENGINES ARE EQUAL
   abbrev pub EnginesEqual : Type 0
-  EnginesEqual = (cells lent : List ℕ) → Lent cells lent → (events : List Event) → Each Proper events → plainToldOver (plainFresh lent) events ≡ toldOver n (fresh n k cells) events
+  EnginesEqual = (cells lent : List ℕ) → LentBoth cells lent → (events : List Event) → Each Proper events → plainToldOver (plainFresh lent) events ≡ toldOver n (fresh n k cells) events
 
   -- Behind any events the log is one that the test accepts, of 75 entries at most, and the record that is read off it is the first engine's.
-  pub record InStep (s : State) (r : Record) : Type 0 where
+  pub record InStep (s : LogState) (r : Record) : Type 0 where
     pub accepted : stateFormed s ≡ true
     pub few : length (s .log) ≤ 75
     pub read-off : recordOf (s .slots) (s .kind) (s .log) ≡ r
 
   abbrev pub AlwaysInStep : Type 0
-  AlwaysInStep = (cells lent : List ℕ) → Lent cells lent → (events : List Event) → Each Proper events → InStep (plainAfter lent events) (run n (fresh n k cells) events .rec)
+  AlwaysInStep = (cells lent : List ℕ) → LentBoth cells lent → (events : List Event) → Each Proper events → InStep (plainAfter lent events) (run n (fresh n k cells) events .rec)
 
   -- ---- demand 3, by equality
   module _ (K : Key) (P : List ℕ) (parts : List (List ℕ)) where
     -- The number had come before, parts are still missing, or it was the last missing part: then exactly the packet is handed out.
-    pub data ServedPlainly (w : History) (c : Call) (number : ℕ) (p : After) : Type 0 where
+    pub data ServedPlainly (w : History) (c : Call) (number : ℕ) (p : AfterLog) : Type 0 where
       again : elem number (w .arrived) ≡ true → p .answer ≡ heldAlready (w .slot) → p .output ≡ c .output → ServedPlainly w c number p
       waits : (i : ℕ) (d : Bool) → elem number (w .arrived) ≡ false → complete (length parts) (add number (w .arrived)) ≡ false
           → p .answer ≡ kept i d → p .output ≡ c .output → ServedPlainly w c number p
@@ -101,31 +101,31 @@ module _ (n : ℕ) (k : Kind) where
           → p .answer ≡ packet (length P) → p .output ≡ P ++ drop (length P) (c .output) → ServedPlainly w c number p
 
     abbrev pub PlainWakeWindow : (Timely : List ℕ → Type 0) → Type 0
-    PlainWakeWindow Timely = (cells lent : List ℕ) → Lent cells lent → (earlier calls : List Event) → Start n k K P parts Timely cells earlier calls
+    PlainWakeWindow Timely = (cells lent : List ℕ) → LentBoth cells lent → (earlier calls : List Event) → Start n k K P parts Timely cells earlier calls
         → (u : List Event) (c : Call) (v : List Event) → calls ≡ u ++ takes c ∷ v → (total number start : ℕ)
         → read k (c .input) ≡ reading.gives (part K total number start) → complete (length parts) (follow n k K (begin n k cells earlier) u .arrived) ≡ false
         → ServedPlainly (follow n k K (begin n k cells earlier) u) c number (plainOutcome (plainAfter lent (earlier ++ u)) c)
 
     -- ---- others do not show
     abbrev pub PlainOthersUnseen : (Timely : List ℕ → Type 0) → Type 0
-    PlainOthersUnseen Timely = (cells lent : List ℕ) → Lent cells lent → (earlier : List Event) (opening : Call) (calls : List Event)
+    PlainOthersUnseen Timely = (cells lent : List ℕ) → LentBoth cells lent → (earlier : List Event) (opening : Call) (calls : List Event)
         → Start n k K P parts Timely cells earlier (takes opening ∷ calls) → (u : List Event) (c : Call) (v : List Event) → OfSeries n k K P parts cells earlier opening calls u c v
         → plainToldBy (plainAfter lent (earlier ++ u)) (takes c) ≡ plainToldBy (plainAfter lent (earlier ++ withoutOthers k K u)) (takes c)
 
   -- ---- order and repetition, behind any events
   -- A part answered "kept", brought again at once, is "held already" in the same slot, and the same record is read off.
-  abbrev pub readOf : State → Record
+  abbrev pub readOf : LogState → Record
   readOf s = recordOf (s .slots) (s .kind) (s .log)
 
   abbrev pub PlainKeptThenHeld : Type 0
   PlainKeptThenHeld = (lent : List ℕ) → length lent ≡ logOctets → (events : List Event) → Each Proper events → (K : Key) (total number : ℕ) (own : List ℕ) (c d : Call)
       → BringsPart k K total number own c → BringsPart k K total number own d → (slot : ℕ) (mark : Bool) → plainOutcome (plainAfter lent events) c .answer ≡ kept slot mark
-      → (plainToldBy (plainOutcome (plainAfter lent events) c .state) (takes d) ≡ told (heldAlready slot) (d .output))
+      → (plainToldBy (plainOutcome (plainAfter lent events) c .state) (takes d) ≡ heard (heldAlready slot) (d .output))
       × (readOf (plainOutcome (plainOutcome (plainAfter lent events) c .state) d .state) ≡ readOf (plainOutcome (plainAfter lent events) c .state))
 
   -- Two parts of one key with different numbers, both "kept" in a row, are both "kept" in the other order, in the same slot, and the same record is read off.
   -- The mark of displacement is at the first answer or at none.
-  pub record PlainExchanged (s : State) (c d : Call) (slot : ℕ) (mark : Bool) (slot′ : ℕ) (mark′ : Bool) : Type 0 where
+  pub record PlainExchanged (s : LogState) (c d : Call) (slot : ℕ) (mark : Bool) (slot′ : ℕ) (mark′ : Bool) : Type 0 where
     pub same-slot : slot′ ≡ slot
     pub no-second-mark : mark′ ≡ false
     pub first-answer : plainOutcome s d .answer ≡ kept slot mark
@@ -163,13 +163,13 @@ pub record LogAcceptance : Type 0 where
       → (lent : List ℕ) → length lent ≡ logOctets → LogMadeIn n k lent log
   pub made-is-formed : (n : ℕ) (k : Kind) (log : List Entry) → Slots n → (lent : List ℕ) → length lent ≡ logOctets → LogMadeIn n k lent log → (logFormed n k log ≡ true) × (length log ≤ 75)
   pub formed-is-same : (n : ℕ) (k : Kind) (log : List Entry) → logFormed n k log ≡ true → length log ≤ mostEntries → All EntryInType log
-      → (xs : List Slot) × (cells : List ℕ) × Formed n k xs × Same n xs cells log
+      → (xs : List Slot) × (cells : List ℕ) × Formed n k xs × SameLog n xs cells log
   -- what is said of a log in lent octets of the right length: by the test, by a call that takes, by a beat
   pub tested : (l : Log) (lent : List ℕ) → Octets lent → length lent ≡ logOctets → Exactly (stateFormed (stateIn l lent) ≡ false) (LogNeverMade l lent)
   pub taking : (l : Log) (lent : List ℕ) → Octets lent → length lent ≡ logOctets → (output : List ℕ) → length output ≡ mostOctets → (i : Input)
-      → Exactly (takeInput (stateIn l lent) output i .answer ≡ refusedBy 1) (LogNeverMade l lent)
+      → Exactly (logTakeInput (stateIn l lent) output i .answer ≡ refusedBy 1) (LogNeverMade l lent)
   pub beating : (l : Log) (lent : List ℕ) → Octets lent → length lent ≡ logOctets → (limit : ℕ)
-      → Exactly (beat (stateIn l lent) limit .answer ≡ reading.refused 1) (LogNeverMade l lent)
+      → Exactly (logBeat (stateIn l lent) limit .answer ≡ reading.refused 1) (LogNeverMade l lent)
 
 -- all of it
 pub record PlainEngine (n : ℕ) (k : Kind) (Timely : List ℕ → Type 0) : Type 0 where

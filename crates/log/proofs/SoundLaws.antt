@@ -18,10 +18,10 @@ use Rattle.slots.specs.Below.{allBelow}
 use Rattle.slots.specs.BelowLaws.{all-same}
 use Rattle.slots.specs.Slots.{isSlotNumber}
 use Rattle.types.specs.declared.Log.{Log}
-use Rattle.plain.specs.Entries.{Entry, mostEntries, logOctets, entryAt, entriesFrom, stateIn}
-use Rattle.plain.specs.Log.{first, has, isPart, hasRank}
+use Rattle.plain.specs.Entries.{Entry, mostEntries, logOctets, logEntryAt, entriesFrom, stateIn}
+use Rattle.plain.specs.Log.{firstEntry, hasEntry, isPart, ofRank}
 use Rattle.plain.specs.Engine.{entryFits, against, rankFits, entryFormed, allOf, noneTwice, logFormed, stateFormed}
-use Rattle.log.specs.Places.{foundAt, allWith, seriesFits, partFits}
+use Rattle.log.specs.Places.{foundAt, allInLog, seriesFits, partFits}
 use Rattle.log.specs.Laws.{entries-long}
 use Rattle.log.proofs.WalkLaws.{next-entries, no-entries}
 
@@ -52,14 +52,14 @@ total-page x total z = rw (eq-eqb (x .width) 0 z)
 pub total-message : (x : Key) (total : ℕ) → (x .width ≡ 0 → ⊥) → leb 2 total && leb total 16 ≡ totalFits x total
 total-message x total z = rw (ne-eqb (x .width) 0 z)
 
-module _ (lent : List ℕ) (i : ℕ) (key : Key) (total : ℕ) (t : key ≡ entryAt lent i .key) (v : total ≡ entryAt lent i .total) where
-  pub series-told : (n : ℕ) (k : Kind) (slot rank beats : ℕ) (a b : Bool) → slot ≡ entryAt lent i .slot → rank ≡ entryAt lent i .rank → beats ≡ entryAt lent i .beats
+module _ (lent : List ℕ) (i : ℕ) (key : Key) (total : ℕ) (t : key ≡ logEntryAt lent i .key) (v : total ≡ logEntryAt lent i .total) where
+  pub series-told : (n : ℕ) (k : Kind) (slot rank beats : ℕ) (a b : Bool) → slot ≡ logEntryAt lent i .slot → rank ≡ logEntryAt lent i .rank → beats ≡ logEntryAt lent i .beats
       → a ≡ keyFormed k key → b ≡ totalFits key total
-      → ltb slot n && ltb 0 rank && leb rank n && leb beats 254 && a && b ≡ seriesFits n k (entryAt lent i)
+      → ltb slot n && ltb 0 rank && leb rank n && leb beats 254 && a && b ≡ seriesFits n k (logEntryAt lent i)
   series-told n k slot rank beats a b p q r x y = rw (x, y, p, q, r, t, v)
 
-  pub part-told : (number size : ℕ) (c : Bool) → number ≡ entryAt lent i .number → size ≡ entryAt lent i .size → c ≡ lengthFits key number size
-      → ltb 0 number && leb number total && c ≡ partFits (entryAt lent i)
+  pub part-told : (number size : ℕ) (c : Bool) → number ≡ logEntryAt lent i .number → size ≡ logEntryAt lent i .size → c ≡ lengthFits key number size
+      → ltb 0 number && leb number total && c ≡ partFits (logEntryAt lent i)
   part-told number size c p q x = rw (x, p, q, t, v)
 
 -- both at once are what it says by itself
@@ -75,32 +75,32 @@ both-fit n k e = go (seriesFits n k e) (ltb 0 (e .number)) (leb (e .number) (e .
 pub before-first : (r : ℕ) → r ≡ 0 → 0 ≡ r - 1
 before-first r e = omega arith
 
-pub rank-told : (lent : List ℕ) (m i rank b : ℕ) (led : Bool) → rank ≡ entryAt lent i .rank → b ≡ rank - 1 → led ≡ has (hasRank b) (entriesFrom lent 0 m)
-    → eqb rank 1 || led ≡ rankFits (entriesFrom lent 0 m) (entryAt lent i)
+pub rank-told : (lent : List ℕ) (m i rank b : ℕ) (led : Bool) → rank ≡ logEntryAt lent i .rank → b ≡ rank - 1 → led ≡ hasEntry (ofRank b) (entriesFrom lent 0 m)
+    → eqb rank 1 || led ≡ rankFits (entriesFrom lent 0 m) (logEntryAt lent i)
 rank-told lent m i rank b led p q r = rw (r, q, p)
 
 -- no part has the number 0
-no-number : (i : ℕ) (log : List Entry) (total : ℕ) → allWith i 0 log total ≡ allBelow total (λ j. has (isPart i (j + 1)) log)
+no-number : (i : ℕ) (log : List Entry) (total : ℕ) → allInLog i 0 log total ≡ allBelow total (λ j. hasEntry (isPart i (j + 1)) log)
 no-number i log total =
-    all-same total (λ j. eqb (j + 1) 0 || has (isPart i (j + 1)) log) (λ j. has (isPart i (j + 1)) log) (λ j l. rw (ne-eqb (j + 1) 0 (λ z. omega arith)))
+    all-same total (λ j. eqb (j + 1) 0 || hasEntry (isPart i (j + 1)) log) (λ j. hasEntry (isPart i (j + 1)) log) (λ j l. rw (ne-eqb (j + 1) 0 (λ z. omega arith)))
 
-pub entry-told : (n : ℕ) (k : Kind) (lent : List ℕ) (m i slot total : ℕ) (f g b c d : Bool) → f ≡ seriesFits n k (entryAt lent i) → g ≡ partFits (entryAt lent i)
-    → b ≡ has (against (entryAt lent i)) (entriesFrom lent 0 m) → c ≡ rankFits (entriesFrom lent 0 m) (entryAt lent i)
-    → slot ≡ entryAt lent i .slot → total ≡ entryAt lent i .total → d ≡ allWith slot 0 (entriesFrom lent 0 m) total
-    → (f && g) && not b && c && not d ≡ entryFormed n k (entriesFrom lent 0 m) (entryAt lent i)
+pub entry-told : (n : ℕ) (k : Kind) (lent : List ℕ) (m i slot total : ℕ) (f g b c d : Bool) → f ≡ seriesFits n k (logEntryAt lent i) → g ≡ partFits (logEntryAt lent i)
+    → b ≡ hasEntry (against (logEntryAt lent i)) (entriesFrom lent 0 m) → c ≡ rankFits (entriesFrom lent 0 m) (logEntryAt lent i)
+    → slot ≡ logEntryAt lent i .slot → total ≡ logEntryAt lent i .total → d ≡ allInLog slot 0 (entriesFrom lent 0 m) total
+    → (f && g) && not b && c && not d ≡ entryFormed n k (entriesFrom lent 0 m) (logEntryAt lent i)
 entry-told n k lent m i slot total f g b c d o p q r s t u =
-    let w : d ≡ allBelow (entryAt lent i .total) (λ j. has (isPart (entryAt lent i .slot) (j + 1)) (entriesFrom lent 0 m)) =
+    let w : d ≡ allBelow (logEntryAt lent i .total) (λ j. hasEntry (isPart (logEntryAt lent i .slot) (j + 1)) (entriesFrom lent 0 m)) =
     u ∙ no-number slot (entriesFrom lent 0 m) total ∙ rw (s, t) in
-    let z : f && g ≡ entryFits n k (entryAt lent i) = rw (o, p) (both-fit n k (entryAt lent i)) in
+    let z : f && g ≡ entryFits n k (logEntryAt lent i) = rw (o, p) (both-fit n k (logEntryAt lent i)) in
     rw (w, z, q, r)
 
-pub twice-told : (lent : List ℕ) (m i r slot number : ℕ) → slot ≡ entryAt lent i .slot → number ≡ entryAt lent i .number
-    → foundAt lent m r ≡ first (isPart slot number) (entriesFrom lent (i + 1) (m - (i + 1)))
-    → ltb r m ≡ has (isPart (entryAt lent i .slot) (entryAt lent i .number)) (entriesFrom lent (i + 1) (m - (i + 1)))
+pub twice-told : (lent : List ℕ) (m i r slot number : ℕ) → slot ≡ logEntryAt lent i .slot → number ≡ logEntryAt lent i .number
+    → foundAt lent m r ≡ firstEntry (isPart slot number) (entriesFrom lent (i + 1) (m - (i + 1)))
+    → ltb r m ≡ hasEntry (isPart (logEntryAt lent i .slot) (logEntryAt lent i .number)) (entriesFrom lent (i + 1) (m - (i + 1)))
 twice-told lent m i r slot number p q e = rw (← p, ← q) (go (ltb r m) e)
   where
-    go : (b : Bool) → cond b (some (entryAt lent r)) none ≡ first (isPart slot number) (entriesFrom lent (i + 1) (m - (i + 1)))
-        → b ≡ has (isPart slot number) (entriesFrom lent (i + 1) (m - (i + 1)))
+    go : (b : Bool) → cond b (some (logEntryAt lent r)) none ≡ firstEntry (isPart slot number) (entriesFrom lent (i + 1) (m - (i + 1)))
+        → b ≡ hasEntry (isPart slot number) (entriesFrom lent (i + 1) (m - (i + 1)))
     go true e = rw (← e)
     go false e = rw (← e)
 
@@ -123,16 +123,16 @@ module _ (n : ℕ) (k : Kind) (lent : List ℕ) (m : ℕ) where
     swap true b false d = refl
     swap false b c d = refl
 
-    turn : i < m → (a b : Bool) → a ≡ entryFormed n k (entriesFrom lent 0 m) (entryAt lent i)
-        → b ≡ has (isPart (entryAt lent i .slot) (entryAt lent i .number)) (entriesFrom lent (i + 1) (m - (i + 1)))
+    turn : i < m → (a b : Bool) → a ≡ entryFormed n k (entriesFrom lent 0 m) (logEntryAt lent i)
+        → b ≡ hasEntry (isPart (logEntryAt lent i .slot) (logEntryAt lent i .number)) (entriesFrom lent (i + 1) (m - (i + 1)))
         → cond (not a || b) false (good (entriesFrom lent (i + 1) (m - (i + 1)))) ≡ good (entriesFrom lent 0 m)
     unfolding allOf noneTwice
     turn l a b p q =
         sym (swap a (allOf (entryFormed n k (entriesFrom lent 0 m)) (entriesFrom lent (i + 1) (m - (i + 1)))) b (noneTwice (entriesFrom lent (i + 1) (m - (i + 1)))))
         ∙ rw (p, q) (ap good (sym (next-entries lent m i l)) ∙ w .left)
 
-    pub test-goes-on : i < m → (a b : Bool) → a ≡ entryFormed n k (entriesFrom lent 0 m) (entryAt lent i)
-        → b ≡ has (isPart (entryAt lent i .slot) (entryAt lent i .number)) (entriesFrom lent (i + 1) (m - (i + 1))) → not a || b ≡ false → Tests (i + 1)
+    pub test-goes-on : i < m → (a b : Bool) → a ≡ entryFormed n k (entriesFrom lent 0 m) (logEntryAt lent i)
+        → b ≡ hasEntry (isPart (logEntryAt lent i .slot) (logEntryAt lent i .number)) (entriesFrom lent (i + 1) (m - (i + 1))) → not a || b ≡ false → Tests (i + 1)
     test-goes-on l a b p q f = record { left = let h = turn l a b p q in rw f at h }
 
     whole : good (entriesFrom lent 0 m) ≡ logFormed n k (entriesFrom lent 0 m)
@@ -143,8 +143,8 @@ module _ (n : ℕ) (k : Kind) (lent : List ℕ) (m : ℕ) where
         go true e = refl
         go false e = absurd (clash true refl e)
 
-    pub test-fails : i < m → (a b : Bool) → a ≡ entryFormed n k (entriesFrom lent 0 m) (entryAt lent i)
-        → b ≡ has (isPart (entryAt lent i .slot) (entryAt lent i .number)) (entriesFrom lent (i + 1) (m - (i + 1))) → not a || b ≡ true
+    pub test-fails : i < m → (a b : Bool) → a ≡ entryFormed n k (entriesFrom lent 0 m) (logEntryAt lent i)
+        → b ≡ hasEntry (isPart (logEntryAt lent i .slot) (logEntryAt lent i .number)) (entriesFrom lent (i + 1) (m - (i + 1))) → not a || b ≡ true
         → false ≡ logFormed n k (entriesFrom lent 0 m)
     test-fails l a b p q f = let h = turn l a b p q in rw f at h ∙ whole
 

@@ -25,8 +25,8 @@ ghost use mathlib.Core.Path.{_≡_};
 ghost use Prim.Native.Nat.{_+_, _-_, _<_};
 ghost use Rattle.arrival.specs.Keys.{keyFormed, totalFits, lengthFits};
 ghost use Rattle.slots.specs.Slots.{isSlotNumber};
-ghost use Rattle.plain.specs.Entries.{entryAt, entriesFrom, stateIn};
-ghost use Rattle.plain.specs.Log.{has, isPart};
+ghost use Rattle.plain.specs.Entries.{logEntryAt, entriesFrom, stateIn};
+ghost use Rattle.plain.specs.Log.{hasEntry, isPart};
 ghost use Rattle.log.specs.Places.{seriesFits, partFits};
 ghost use Rattle.plain.specs.Engine.{rankFits, entryFormed, logFormed, stateFormed};
 
@@ -75,7 +75,7 @@ fn length_fits(key: Key, number: u8, size: u8) -> bool
 
 // Whether what entry i says of its series can be, and of its part.
 fn series_fits(entries: &[u8], i: u8, kind: Kind, n: u8) -> bool
-    ensures { λ r. ⌜ r ≡ seriesFits n kind (entryAt (now (entries .entry)) i) ⌝ }
+    ensures { λ r. ⌜ r ≡ seriesFits n kind (logEntryAt (now (entries .entry)) i) ⌝ }
 {
     let rank = rank_at(entries, i);
     let key = key_at(entries, i);
@@ -90,7 +90,7 @@ fn series_fits(entries: &[u8], i: u8, kind: Kind, n: u8) -> bool
 }
 
 fn part_fits(entries: &[u8], i: u8) -> bool
-    ensures { λ r. ⌜ r ≡ partFits (entryAt (now (entries .entry)) i) ⌝ }
+    ensures { λ r. ⌜ r ≡ partFits (logEntryAt (now (entries .entry)) i) ⌝ }
 {
     let number = number_at(entries, i);
     let sized = length_fits(key_at(entries, i), number, size_at(entries, i));
@@ -109,7 +109,7 @@ fn before(rank: u8) -> u8
 
 // Whether the series of entry i is the most recent, or another has the rank before it.
 fn rank_fits(entries: &[u8], count: u8, i: u8) -> bool
-    ensures { λ r. ⌜ r ≡ rankFits (entriesFrom (now (entries .entry)) 0 count) (entryAt (now (entries .entry)) i) ⌝ }
+    ensures { λ r. ⌜ r ≡ rankFits (entriesFrom (now (entries .entry)) 0 count) (logEntryAt (now (entries .entry)) i) ⌝ }
 {
     let rank = rank_at(entries, i);
     let led = has(entries, count, Sought::OfRank(before(rank)));
@@ -118,7 +118,7 @@ fn rank_fits(entries: &[u8], count: u8, i: u8) -> bool
 
 // Whether entry i can be in the log: by itself, beside the others, by its rank, and because a part of its series is missing. No part has the number 0.
 fn entry_formed(entries: &[u8], count: u8, i: u8, kind: Kind, n: u8) -> bool
-    ensures { λ r. ⌜ r ≡ entryFormed n kind (entriesFrom (now (entries .entry)) 0 count) (entryAt (now (entries .entry)) i) ⌝ }
+    ensures { λ r. ⌜ r ≡ entryFormed n kind (entriesFrom (now (entries .entry)) 0 count) (logEntryAt (now (entries .entry)) i) ⌝ }
 {
     let fits = series_fits(entries, i, kind, n) & part_fits(entries, i);
     let beset = has(entries, count, Sought::Against(i));
@@ -130,7 +130,7 @@ fn entry_formed(entries: &[u8], count: u8, i: u8, kind: Kind, n: u8) -> bool
 // Whether the part of entry i is in the log once more, behind it.
 fn is_twice(entries: &[u8], count: u8, i: u8) -> bool
     requires { ⌜ i < count ⌝ }
-    ensures { λ r. ⌜ r ≡ has (isPart (entryAt (now (entries .entry)) i .slot) (entryAt (now (entries .entry)) i .number)) (entriesFrom (now (entries .entry)) (i + 1) (count - (i + 1))) ⌝ }
+    ensures { λ r. ⌜ r ≡ hasEntry (isPart (logEntryAt (now (entries .entry)) i .slot) (logEntryAt (now (entries .entry)) i .number)) (entriesFrom (now (entries .entry)) (i + 1) (count - (i + 1))) ⌝ }
 {
     let slot = slot_at(entries, i);
     let number = number_at(entries, i);

@@ -29,12 +29,12 @@ use Rattle.series.specs.KeepLaws.{length-short}
 use Rattle.beats.specs.Beats.{slotsAfterBeat}
 use Rattle.beats.specs.Laws.{Beaten, was-free, is-dropped, is-older, beaten?, beat-at}
 use Rattle.plain.specs.Entries.{Entry}
-use Rattle.plain.specs.Log.{has, hasKey, ofSlot, isPart, hasRank, only, without, noted, touched, touch, movedUp, close, living, older, logAfterBeat}
-use Rattle.plain.specs.Same.{All, Once, Fits, Same}
+use Rattle.plain.specs.Log.{hasEntry, hasKey, ofSlot, isPart, ofRank, only, without, notedAs, touched, touch, movedUp, close, living, older, logAfterBeat}
+use Rattle.plain.specs.Same.{All, Once, Fits, SameLog}
 use Rattle.plain.specs.Walks.{is-part, part-is, has-more, has-none, all-map, all-only, all-snoc, part-noted, once-noted, part-only, once-only, snoc-old, snoc-new, once-snoc}
 
 -- ---- what the walks find
-module _ (n : ℕ) (k : Kind) (xs : List Slot) (cells : List ℕ) (log : List Entry) (w : Formed n k xs) (h : Same n xs cells log) where
+module _ (n : ℕ) (k : Kind) (xs : List Slot) (cells : List ℕ) (log : List Entry) (w : Formed n k xs) (h : SameLog n xs cells log) where
   pub used-at : (i : ℕ) → i < n → 0 < slotAt xs i .rank → UsedSlot k (slotAt xs i)
   used-at i l u = slot-tells k (slotAt xs i) (w .slots i l) u
 
@@ -42,53 +42,53 @@ module _ (n : ℕ) (k : Kind) (xs : List Slot) (cells : List ℕ) (log : List En
   entry-used e f = omega (arith, f .rank, f .used)
 
   -- the walk for a part says what the mark says
-  pub has-part : (i m : ℕ) → i < n → 1 ≤ m → m ≤ mostParts → has (isPart i m) log ≡ heldAt (slotAt xs i) m
+  pub has-part : (i m : ℕ) → i < n → 1 ≤ m → m ≤ mostParts → hasEntry (isPart i m) log ≡ heldAt (slotAt xs i) m
   has-part i m l low high = go (heldAt (slotAt xs i) m) refl
     where
-      go : (b : Bool) → heldAt (slotAt xs i) m ≡ b → has (isPart i m) log ≡ b
+      go : (b : Bool) → heldAt (slotAt xs i) m ≡ b → hasEntry (isPart i m) log ≡ b
       go true e = h .back i m l low high e
       go false e =
           has-none (Fits n xs cells) (isPart i m) log (h .each) (λ x f t. let (p, q) = is-part i m x t in clash (heldAt (slotAt xs i) m) (rw (← p, ← q) (f .held)) e)
 
   -- a used slot has an entry, a free one has none
-  pub has-slot : (i : ℕ) → i < n → 0 < slotAt xs i .rank → has (ofSlot i) log ≡ true
-  has-slot i l u = go (has (ofSlot i) log) refl
+  pub has-slot : (i : ℕ) → i < n → 0 < slotAt xs i .rank → hasEntry (ofSlot i) log ≡ true
+  has-slot i l u = go (hasEntry (ofSlot i) log) refl
     where
-      no-mark : has (ofSlot i) log ≡ false → (j : ℕ) → j < mostParts → markAt (slotAt xs i) j ≡ false
+      no-mark : hasEntry (ofSlot i) log ≡ false → (j : ℕ) → j < mostParts → markAt (slotAt xs i) j ≡ false
       no-mark e j m = by (markAt (slotAt xs i) j) refl
         where
           by : (b : Bool) → markAt (slotAt xs i) j ≡ b → b ≡ false
           by false q = refl
           by true q =
               let v : j + 1 - 1 ≡ j = omega arith in
-              absurd (clash (has (ofSlot i) log)
+              absurd (clash (hasEntry (ofSlot i) log)
               (has-more (Fits n xs cells) (isPart i (j + 1)) (ofSlot i) log (h .each) (λ x f t. eq-eqb (x .slot) i (is-part i (j + 1) x t .0)) (h .back i (j + 1) l (omega arith) (omega arith) (rw v q))) e)
 
-      go : (b : Bool) → has (ofSlot i) log ≡ b → b ≡ true
+      go : (b : Bool) → hasEntry (ofSlot i) log ≡ b → b ≡ true
       go true e = refl
       go false e = absurd (omega (arith, used-at i l u .some, count-zero mostParts (markAt (slotAt xs i)) (no-mark e)))
 
-  pub no-slot : (i : ℕ) → slotAt xs i .rank ≡ 0 → has (ofSlot i) log ≡ false
+  pub no-slot : (i : ℕ) → slotAt xs i .rank ≡ 0 → hasEntry (ofSlot i) log ≡ false
   no-slot i z =
       has-none (Fits n xs cells) (ofSlot i) log (h .each)
       (λ x f t. omega (arith, entry-used x f, ap (λ (j : ℕ). slotAt xs j .rank) (eqb-true (x .slot) i t)))
 
   -- the entries of a slot all pass what its slot passes: its key is found, and its rank
-  pub has-key : (i : ℕ) → i < n → 0 < slotAt xs i .rank → (key : Key) → slotAt xs i .key ≡ key → has (hasKey key) log ≡ true
+  pub has-key : (i : ℕ) → i < n → 0 < slotAt xs i .rank → (key : Key) → slotAt xs i .key ≡ key → hasEntry (hasKey key) log ≡ true
   has-key i l u key e =
       has-more (Fits n xs cells) (ofSlot i) (hasKey key) log (h .each)
       (λ x f t. key-same (x .key) key (sym (f .key) ∙ ap (λ (j : ℕ). slotAt xs j .key) (eqb-true (x .slot) i t) ∙ e)) (has-slot i l u)
 
-  pub has-rank : (i r : ℕ) → i < n → 0 < r → slotAt xs i .rank ≡ r → has (hasRank r) log ≡ true
+  pub has-rank : (i r : ℕ) → i < n → 0 < r → slotAt xs i .rank ≡ r → hasEntry (ofRank r) log ≡ true
   has-rank i r l u e =
-      has-more (Fits n xs cells) (ofSlot i) (hasRank r) log (h .each)
+      has-more (Fits n xs cells) (ofSlot i) (ofRank r) log (h .each)
       (λ x f t. eq-eqb (x .rank) r (sym (f .rank) ∙ ap (λ (j : ℕ). slotAt xs j .rank) (eqb-true (x .slot) i t) ∙ e)) (has-slot i l (omega arith))
 
 -- ---- what the copies leave
 -- an entry whose slot keeps all but rank and count
 fits-moved : (n : ℕ) (xs ys : List Slot) (cells cells′ : List ℕ) (e : Entry) (q b q′ b′ : ℕ) → Fits n xs cells e → 0 < q
     → slotAt ys (e .slot) ≡ slots.atRank q′ (slots.atCount b′ (slotAt xs (e .slot))) → q′ ≡ q → b′ ≡ b
-    → cellPart cells′ (slotAt xs (e .slot)) (e .slot) (e .number) ≡ cellPart cells (slotAt xs (e .slot)) (e .slot) (e .number) → Fits n ys cells′ (noted q b e)
+    → cellPart cells′ (slotAt xs (e .slot)) (e .slot) (e .number) ≡ cellPart cells (slotAt xs (e .slot)) (e .slot) (e .number) → Fits n ys cells′ (notedAs q b e)
 fits-moved n xs ys cells cells′ e q b q′ b′ f u t r s c = record {
   inside = f .inside;
   used = u;
@@ -116,14 +116,14 @@ not-of i e t p = eqb-false (e .slot) i (not-true (eqb (e .slot) i) t) p
 pub of-another : (i : ℕ) (e : Entry) → (e .slot ≡ i → ⊥) → not (ofSlot i e) ≡ true
 of-another i e ne = rw (ne-eqb (e .slot) i ne)
 
-module _ (n : ℕ) (k : Kind) (xs : List Slot) (cells : List ℕ) (log : List Entry) (w : Formed n k xs) (h : Same n xs cells log) where
+module _ (n : ℕ) (k : Kind) (xs : List Slot) (cells : List ℕ) (log : List Entry) (w : Formed n k xs) (h : SameLog n xs cells log) where
   -- ---- slot i, which had rank r
   module _ (i : ℕ) (inside : i < n) (r : ℕ) (was : slotAt xs i .rank ≡ r) where
     -- the copy without slot i
     rest : All (λ e. Fits n xs cells e × (not (ofSlot i e) ≡ true)) (without i log)
     rest = all-only (Fits n xs cells) (λ e. not (ofSlot i e)) log (h .each)
 
-    part-there : (j m : ℕ) → (j ≡ i → ⊥) → has (isPart j m) (without i log) ≡ has (isPart j m) log
+    part-there : (j m : ℕ) → (j ≡ i → ⊥) → hasEntry (isPart j m) (without i log) ≡ hasEntry (isPart j m) log
     part-there j m ne = part-only (Fits n xs cells) (λ e. not (ofSlot i e)) j m log (h .each) (λ e f q. of-another i e (λ p. ne (sym q ∙ p)))
 
     -- what a touch notes
@@ -133,7 +133,7 @@ module _ (n : ℕ) (k : Kind) (xs : List Slot) (cells : List ℕ) (log : List En
     abbrev countNow : Entry → ℕ
     countNow e = cond (ofSlot i e) 0 (e .beats)
 
-    part-touch : (j m : ℕ) (l : List Entry) → has (isPart j m) (touch i r l) ≡ has (isPart j m) l
+    part-touch : (j m : ℕ) (l : List Entry) → hasEntry (isPart j m) (touch i r l) ≡ hasEntry (isPart j m) l
     part-touch j m l = part-noted rankNow countNow j m l
 
     once-touch : (l : List Entry) → Once l → Once (touch i r l)
@@ -152,7 +152,7 @@ module _ (n : ℕ) (k : Kind) (xs : List Slot) (cells : List ℕ) (log : List En
         (aged-pos r (e .rank) (f .used)) (front-there xs i x (e .slot) p) (rw (was, f .rank)) (f .beats) c)
 
     -- "held already"
-    pub same-touch : Same n (toFront xs i (slotAt xs i)) cells (touch i r log)
+    pub same-touch : SameLog n (toFront xs i (slotAt xs i)) cells (touch i r log)
     same-touch = record {
       each = all-map (Fits n xs cells) (Fits n (toFront xs i (slotAt xs i)) cells) (touched i r) log (h .each) (λ e f. go e f (same? (e .slot) i));
       back = λ j m a b c d. part-touch j m log ∙ h .back j m a b c (marks j m (same? j i) d);
@@ -169,7 +169,7 @@ module _ (n : ℕ) (k : Kind) (xs : List Slot) (cells : List ℕ) (log : List En
         marks j m (tests.other t p) d = rw (front-there xs i (slotAt xs i) j p) at d
 
     -- the series is dropped
-    pub same-drop : 0 < r → Same n (freed xs i) cells (close r (without i log))
+    pub same-drop : 0 < r → SameLog n (freed xs i) cells (close r (without i log))
     same-drop u = record {
       each = all-map (λ e. Fits n xs cells e × (not (ofSlot i e) ≡ true)) (Fits n (freed xs i) cells) (movedUp r) (without i log) rest (λ e f. go e (f .0) (not-of i e (f .1)));
       back = λ j m a b c d. marks j m a b c (same? j i) d;
@@ -181,7 +181,7 @@ module _ (n : ℕ) (k : Kind) (xs : List Slot) (cells : List ℕ) (log : List En
             fits-moved n xs (freed xs i) cells cells e (closed r (e .rank)) (e .beats) (closed (slotAt xs i .rank) (slotAt xs (e .slot) .rank)) (slotAt xs (e .slot) .beats) f
             (closed-pos r (e .rank) u (f .used)) (freed-there xs i (e .slot) p) (rw (was, f .rank)) (f .beats) refl
 
-        marks : (j m : ℕ) → j < n → 1 ≤ m → m ≤ mostParts → tests.Same j i → heldAt (slotAt (freed xs i) j) m ≡ true → has (isPart j m) (close r (without i log)) ≡ true
+        marks : (j m : ℕ) → j < n → 1 ≤ m → m ≤ mostParts → tests.Same j i → heldAt (slotAt (freed xs i) j) m ≡ true → hasEntry (isPart j m) (close r (without i log)) ≡ true
         marks j m a b c (tests.same t p) d =
             let e : slotAt (freed xs i) j ≡ slots.freeSlot = rw p (freed-here xs i (omega (arith, w .high, w .array))) in
             absurd (clash (heldAt (slotAt (freed xs i) j) m) d (ap (λ (y : Slot). heldAt y m) e ∙ getD-replicate mostParts (m - 1) false false (omega arith)))
@@ -227,7 +227,7 @@ module _ (n : ℕ) (k : Kind) (xs : List Slot) (cells : List ℕ) (log : List En
 
       -- in a series that is there
       pub same-more : UsedSlot k (slotAt xs i) → slotAt xs i .key ≡ key → slotAt xs i .total ≡ total → heldAt (slotAt xs i) number ≡ false
-          → Same n (toFront xs i (withPart (slotAt xs i) number (length octets))) cells′ (touch i r log ++ new ∷ [])
+          → SameLog n (toFront xs i (withPart (slotAt xs i) number (length octets))) cells′ (touch i r log ++ new ∷ [])
       same-more u a b c = record {
         each = all-snoc (Fits n (toFront xs i (withPart (slotAt xs i) number (length octets))) cells′) (touch i r log) new
             (all-map (Fits n xs cells) (Fits n (toFront xs i (withPart (slotAt xs i) number (length octets))) cells′) (touched i r) log (h .each) (λ e f. go e f (same? (e .slot) i)))
@@ -245,7 +245,7 @@ module _ (n : ℕ) (k : Kind) (xs : List Slot) (cells : List ℕ) (log : List En
               let apart : e .number - 1 ≡ number - 1 → ⊥ = λ q. ne (omega (arith, f .low)) in
               let long : lengthAt (slotAt (toFront xs i (withPart (slotAt xs i) number (length octets))) (e .slot)) (e .number) ≡ lengthAt (slotAt xs (e .slot)) (e .number) =
               ap (λ (y : Slot). lengthAt y (e .number)) y ∙ getD-set-other (slotAt xs (e .slot) .lengths) (number - 1) (e .number - 1) (length octets) 0 apart in
-              let f′ : Fits n (toFront xs i (withPart (slotAt xs i) number (length octets))) cells′ (noted 1 0 e) = record {
+              let f′ : Fits n (toFront xs i (withPart (slotAt xs i) number (length octets))) cells′ (notedAs 1 0 e) = record {
                 inside = f .inside;
                 used = omega arith;
                 rank = ap (λ (y : Slot). y .rank) y;
@@ -261,7 +261,7 @@ module _ (n : ℕ) (k : Kind) (xs : List Slot) (cells : List ℕ) (log : List En
               rw t f′
 
           marks : (j m : ℕ) → j < n → 1 ≤ m → m ≤ mostParts → tests.Same j i → tests.Same m number
-              → heldAt (slotAt (toFront xs i (withPart (slotAt xs i) number (length octets))) j) m ≡ true → has (isPart j m) (touch i r log ++ new ∷ []) ≡ true
+              → heldAt (slotAt (toFront xs i (withPart (slotAt xs i) number (length octets))) j) m ≡ true → hasEntry (isPart j m) (touch i r log ++ new ∷ []) ≡ true
           marks j m a b c (tests.same t p) (tests.same s q) d = snoc-new (isPart j m) (touch i r log) new (part-is j m new (sym p) (sym q))
           marks j m a b c (tests.same t p) (tests.other s q) d =
               let d′ : heldAt (withPart (slotAt xs i) number (length octets)) m ≡ true = rw (here-front (withPart (slotAt xs i) number (length octets)) j p) at d in
@@ -271,7 +271,7 @@ module _ (n : ℕ) (k : Kind) (xs : List Slot) (cells : List ℕ) (log : List En
               snoc-old (isPart j m) (touch i r log) new (part-touch j m log ∙ h .back j m a b c (rw (front-there xs i (withPart (slotAt xs i) number (length octets)) j p) at d))
 
       -- in a slot that is free, or whose series is displaced
-      pub same-new : Same n (toFront xs i (withPart (opened key total) number (length octets))) cells′ (touch i r (without i log) ++ new ∷ [])
+      pub same-new : SameLog n (toFront xs i (withPart (opened key total) number (length octets))) cells′ (touch i r (without i log) ++ new ∷ [])
       same-new = record {
         each = all-snoc (Fits n (toFront xs i (withPart (opened key total) number (length octets))) cells′) (touch i r (without i log)) new
             (all-map (λ e. Fits n xs cells e × (not (ofSlot i e) ≡ true)) (Fits n (toFront xs i (withPart (opened key total) number (length octets))) cells′) (touched i r) (without i log) rest
@@ -284,7 +284,7 @@ module _ (n : ℕ) (k : Kind) (xs : List Slot) (cells : List ℕ) (log : List En
       }
         where
           marks : (j m : ℕ) → j < n → 1 ≤ m → m ≤ mostParts → tests.Same j i → tests.Same m number
-              → heldAt (slotAt (toFront xs i (withPart (opened key total) number (length octets))) j) m ≡ true → has (isPart j m) (touch i r (without i log) ++ new ∷ []) ≡ true
+              → heldAt (slotAt (toFront xs i (withPart (opened key total) number (length octets))) j) m ≡ true → hasEntry (isPart j m) (touch i r (without i log) ++ new ∷ []) ≡ true
           marks j m a b c (tests.same t p) (tests.same s q) d = snoc-new (isPart j m) (touch i r (without i log)) new (part-is j m new (sym p) (sym q))
           marks j m a b c (tests.same t p) (tests.other s q) d =
               absurd (clash (heldAt (slotAt (toFront xs i (withPart (opened key total) number (length octets))) j) m) d
@@ -295,7 +295,7 @@ module _ (n : ℕ) (k : Kind) (xs : List Slot) (cells : List ℕ) (log : List En
               (part-touch j m (without i log) ∙ part-there j m p ∙ h .back j m a b c (rw (front-there xs i (withPart (opened key total) number (length octets)) j p) at d))
 
   -- ---- a beat
-  pub same-beat : (limit : ℕ) → Same n (slotsAfterBeat limit xs) cells (logAfterBeat limit log)
+  pub same-beat : (limit : ℕ) → SameLog n (slotsAfterBeat limit xs) cells (logAfterBeat limit log)
   unfolding logAfterBeat
   same-beat limit = record {
     each = all-map (λ e. Fits n xs cells e × (living limit e ≡ true)) (Fits n (slotsAfterBeat limit xs) cells) older (only (living limit) log)
@@ -313,13 +313,13 @@ module _ (n : ℕ) (k : Kind) (xs : List Slot) (cells : List ℕ) (log : List En
 
       -- the parts of a slot whose entries live
       still : (j m : ℕ) → j < n → 1 ≤ m → m ≤ mostParts → heldAt (slotAt xs j) m ≡ true → ((e : Entry) → Fits n xs cells e → e .slot ≡ j → suc (e .beats) < limit)
-          → has (isPart j m) (map older (only (living limit) log)) ≡ true
+          → hasEntry (isPart j m) (map older (only (living limit) log)) ≡ true
       still j m a b c d lives =
           part-noted (λ e. e .rank) (λ e. suc (e .beats)) j m (only (living limit) log)
           ∙ part-only (Fits n xs cells) (living limit) j m log (h .each) (λ e f q. lt-ltb (suc (e .beats)) limit (lives e f q)) ∙ h .back j m a b c d
 
       marks : (j m : ℕ) → j < n → 1 ≤ m → m ≤ mostParts → Beaten limit (slotAt xs j) → heldAt (slotAt (slotsAfterBeat limit xs) j) m ≡ true
-          → has (isPart j m) (map older (only (living limit) log)) ≡ true
+          → hasEntry (isPart j m) (map older (only (living limit) log)) ≡ true
       marks j m a b c (was-free z r q) d =
           still j m a b c (ap (λ (y : Slot). heldAt y m) (sym (beat-at limit xs j ∙ q)) ∙ d)
           (λ e f p. absurd (omega (arith, f .rank, f .used, ap (λ (o : ℕ). slotAt xs o .rank) p)))

@@ -18,8 +18,8 @@ use Rattle.formed.specs.Formed.{mostBeats}
 use Rattle.series.specs.Taking.{Answer, kept, heldAlready, packet, refusedBy}
 use Rattle.series.specs.Calls.{Input, message, page}
 use Rattle.types.specs.declared.Log.{Log}
-use Rattle.plain.specs.Entries.{Entry, mostEntries, logOctets, State}
-use Rattle.plain.specs.Log.{has, hasRank, isPart, Result, result, handOut, takePart, logAfterBeat, droppedBy}
+use Rattle.plain.specs.Entries.{Entry, mostEntries, logOctets, LogState}
+use Rattle.plain.specs.Log.{hasEntry, ofRank, isPart, Result, result, logHandOut, logTakePart, logAfterBeat, logDropped}
 
 -- ---- which logs can have been made
 -- What an entry says by itself: each clause that a well-formed record makes of a used slot and of a part that is held.
@@ -40,13 +40,13 @@ against e x = cond (eqb (x .slot) (e .slot)) (not (agrees e x)) (contends e x)
 
 -- Ranks have no gap: behind each but the first there is the one before it. No series has all its parts.
 abbrev pub rankFits : List Entry → Entry → Bool
-rankFits log e = eqb (e .rank) 1 || has (hasRank (e .rank - 1)) log
+rankFits log e = eqb (e .rank) 1 || hasEntry (ofRank (e .rank - 1)) log
 
 abbrev pub lacksOne : List Entry → Entry → Bool
-lacksOne log e = not (allBelow (e .total) (λ j. has (isPart (e .slot) (j + 1)) log))
+lacksOne log e = not (allBelow (e .total) (λ j. hasEntry (isPart (e .slot) (j + 1)) log))
 
 abbrev pub entryFormed : ℕ → Kind → List Entry → Entry → Bool
-entryFormed n k log e = entryFits n k e && not (has (against e) log) && rankFits log e && lacksOne log e
+entryFormed n k log e = entryFits n k e && not (hasEntry (against e) log) && rankFits log e && lacksOne log e
 
 -- each entry passes a test; no part of a slot is there twice
 unfoldable pub allOf : (Entry → Bool) → List Entry → Bool
@@ -55,89 +55,89 @@ allOf p (e ∷ log) = p e && allOf p log
 
 unfoldable pub noneTwice : List Entry → Bool
 noneTwice [] = true
-noneTwice (e ∷ log) = not (has (isPart (e .slot) (e .number)) log) && noneTwice log
+noneTwice (e ∷ log) = not (hasEntry (isPart (e .slot) (e .number)) log) && noneTwice log
 
 -- The order of the entries is not judged, since every order of arrival can be made.
 unfoldable pub logFormed : ℕ → Kind → List Entry → Bool
 logFormed n k log = isSlotNumber n && allOf (entryFormed n k log) log && noneTwice log
 
 -- 1: octets for the log of another length, more entries than they have room for, or a log that the engine could not have made
-unfoldable pub stateFormed : State → Bool
+unfoldable pub stateFormed : LogState → Bool
 stateFormed s = eqb (s .lent) logOctets && leb (length (s .log)) mostEntries && logFormed (s .slots) (s .kind) (s .log)
 
 -- ---- a fresh log
 abbrev pub freshLog : ℕ → Kind → Log
 freshLog n k = record { kind = k; slots = n; count = 0 }
 
-abbrev pub Beside : Type 0
-Beside = Outcome Unit × Log
+abbrev pub BesideLog : Type 0
+BesideLog = Outcome Unit × Log
 
-abbrev pub beside : Outcome Unit → Log → Beside
-beside answer l = (answer, l)
+abbrev pub besideLog : Outcome Unit → Log → BesideLog
+besideLog answer l = (answer, l)
 
 -- 25, as for a record
-abbrev pub making : ℕ → Kind → Beside
-making n k = cond (isSlotNumber n) (beside (gives tt) (freshLog n k)) (beside (refused 25) (freshLog 0 k))
+abbrev pub makingLog : ℕ → Kind → BesideLog
+makingLog n k = cond (isSlotNumber n) (besideLog (gives tt) (freshLog n k)) (besideLog (refused 25) (freshLog 0 k))
 
 -- ---- taking
 -- the answer, the log afterwards, and the output
-pub record After : Type 0 where
+pub record AfterLog : Type 0 where
   pub answer : Answer
-  pub state : State
+  pub state : LogState
   pub output : List ℕ
 
-abbrev pub after : Answer → State → List ℕ → After
-after a s output = record { answer = a; state = s; output = output }
+abbrev pub afterLog : Answer → LogState → List ℕ → AfterLog
+afterLog a s output = record { answer = a; state = s; output = output }
 
 -- the state with other entries
-abbrev pub withLog : State → List Entry → State
+abbrev pub withLog : LogState → List Entry → LogState
 withLog s log = record { kind = s .kind; slots = s .slots; lent = s .lent; log = log }
 
-abbrev pub leaves : State → Result → After
-leaves s r = after (r .answer) (withLog s (r .log)) (r .output)
+abbrev pub leaves : LogState → Result → AfterLog
+leaves s r = afterLog (r .answer) (withLog s (r .log)) (r .output)
 
 -- what reading brings: "shares with the first engine the reading of arrivals and the judgement of packets"
-abbrev pub taken : ℕ → Kind → List Entry → List ℕ → Bool → List ℕ → Outcome Brought → Result
-taken n k log output paged o (refused m) = result (refusedBy m) log output
-taken n k log output paged o (gives (single start)) = handOut log output (packetIn k paged 1 (drop start o))
-taken n k log output paged o (gives (part key total number start)) = takePart n k log output key total number (drop start o)
+abbrev pub logTaken : ℕ → Kind → List Entry → List ℕ → Bool → List ℕ → Outcome Brought → Result
+logTaken n k log output paged o (refused m) = result (refusedBy m) log output
+logTaken n k log output paged o (gives (single start)) = logHandOut log output (packetIn k paged 1 (drop start o))
+logTaken n k log output paged o (gives (part key total number start)) = logTakePart n k log output key total number (drop start o)
 
-abbrev pub unfit : State → List ℕ → Bool
-unfit s output = not (stateFormed s) || not (eqb (length output) mostOctets)
+abbrev pub logUnfit : LogState → List ℕ → Bool
+logUnfit s output = not (stateFormed s) || not (eqb (length output) mostOctets)
 
-unfoldable pub takeMessage : State → List ℕ → ℕ → List ℕ → After
-takeMessage s output sender ud =
-    cond (unfit s output) (after (refusedBy 1) s output) (leaves s (taken (s .slots) (s .kind) (s .log) output false ud (readMessage (s .kind) sender ud)))
+unfoldable pub logTakeMessage : LogState → List ℕ → ℕ → List ℕ → AfterLog
+logTakeMessage s output sender ud =
+    cond (logUnfit s output) (afterLog (refusedBy 1) s output) (leaves s (logTaken (s .slots) (s .kind) (s .log) output false ud (readMessage (s .kind) sender ud)))
 
-unfoldable pub takePage : State → List ℕ → List ℕ → After
-takePage s output o =
-    cond (unfit s output) (after (refusedBy 1) s output) (leaves s (taken (s .slots) (s .kind) (s .log) output true o (readPage (s .kind) o)))
+unfoldable pub logTakePage : LogState → List ℕ → List ℕ → AfterLog
+logTakePage s output o =
+    cond (logUnfit s output) (afterLog (refusedBy 1) s output) (leaves s (logTaken (s .slots) (s .kind) (s .log) output true o (readPage (s .kind) o)))
 
 -- one function for both
-abbrev pub takeInput : State → List ℕ → Input → After
-takeInput s output (message sender ud) = takeMessage s output sender ud
-takeInput s output (page o) = takePage s output o
+abbrev pub logTakeInput : LogState → List ℕ → Input → AfterLog
+logTakeInput s output (message sender ud) = logTakeMessage s output sender ud
+logTakeInput s output (page o) = logTakePage s output o
 
 -- ---- a beat
-pub record AfterBeat : Type 0 where
+pub record AfterLogBeat : Type 0 where
   pub answer : Outcome ℕ
-  pub state : State
+  pub state : LogState
 
-abbrev pub beaten : Outcome ℕ → State → AfterBeat
-beaten answer s = record { answer = answer; state = s }
+abbrev pub beatenLog : Outcome ℕ → LogState → AfterLogBeat
+beatenLog answer s = record { answer = answer; state = s }
 
-abbrev pub beating : State → ℕ → Outcome ℕ
-beating s limit =
+abbrev pub logBeating : LogState → ℕ → Outcome ℕ
+logBeating s limit =
     refuse 1 when not (stateFormed s) otherwise
     refuse 18 when eqb limit 0 otherwise
-    gives (droppedBy (s .slots) limit (s .log))
+    gives (logDropped (s .slots) limit (s .log))
 
-abbrev pub leavesBeat : State → ℕ → Outcome ℕ → AfterBeat
-leavesBeat s limit (refused m) = beaten (refused m) s
-leavesBeat s limit (gives m) = beaten (gives m) (withLog s (logAfterBeat limit (s .log)))
+abbrev pub leavesLogBeat : LogState → ℕ → Outcome ℕ → AfterLogBeat
+leavesLogBeat s limit (refused m) = beatenLog (refused m) s
+leavesLogBeat s limit (gives m) = beatenLog (gives m) (withLog s (logAfterBeat limit (s .log)))
 
-unfoldable pub beat : State → ℕ → AfterBeat
-beat s limit = leavesBeat s limit (beating s limit)
+unfoldable pub logBeat : LogState → ℕ → AfterLogBeat
+logBeat s limit = leavesLogBeat s limit (logBeating s limit)
 
 -- ---- what a refusal leaves
 -- Every refusal but 9 leaves the lent octets as they were, each of them. 9 is also the answer to a part that completes a series which is no packet, and

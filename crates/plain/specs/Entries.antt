@@ -23,8 +23,8 @@ pub record Entry : Type 0 where
 -- An entry has 151 octets. Of the first 17, place 0 is the slot, 1 the rank, 2 the beats, 3 to 6 the sender, 7 the width, 8 and 9 the reference, 10 and 11
 -- the serial number, 12 and 13 the message identifier, 14 the total, 15 the number, and 16 the size: how many octets the part has. The part's own octets
 -- begin at place 17, and 134 places are theirs; those behind them count for nothing.
-abbrev pub headOctets : ℕ
-headOctets = 17
+abbrev pub entryHead : ℕ
+entryHead = 17
 
 abbrev pub entryOctets : ℕ
 entryOctets = 151
@@ -35,8 +35,8 @@ mostEntries = 80
 abbrev pub logOctets : ℕ
 logOctets = mostEntries * entryOctets
 
-abbrev pub keyIn : List ℕ → Key
-keyIn o =
+abbrev pub entryKey : List ℕ → Key
+entryKey o =
     record {
       sender = numberOf (getD o 3 0) (getD o 4 0) * 65536 + numberOf (getD o 5 0) (getD o 6 0);
       width = getD o 7 0;
@@ -52,11 +52,11 @@ entryIn o =
       slot = getD o 0 0;
       rank = getD o 1 0;
       beats = getD o 2 0;
-      key = keyIn o;
+      key = entryKey o;
       total = getD o 14 0;
       number = getD o 15 0;
       size = getD o 16 0;
-      octets = take (getD o 16 0) (drop headOctets o);
+      octets = take (getD o 16 0) (drop entryHead o);
     }
 
 -- The octets that are written for an entry: its head, and the part's own octets behind it.
@@ -71,20 +71,20 @@ writtenFor e = headOf e ++ e .octets
 
 -- ---- the entries of a log
 -- entry i of the lent octets, from 0; the m entries from i on
-unfoldable pub entryAt : List ℕ → ℕ → Entry
-entryAt lent i = entryIn (take entryOctets (drop (i * entryOctets) lent))
+unfoldable pub logEntryAt : List ℕ → ℕ → Entry
+logEntryAt lent i = entryIn (take entryOctets (drop (i * entryOctets) lent))
 
 unfoldable pub entriesFrom : List ℕ → ℕ → ℕ → List Entry
 entriesFrom lent i zero = []
-entriesFrom lent i (suc m) = entryAt lent i ∷ entriesFrom lent (suc i) m
+entriesFrom lent i (suc m) = logEntryAt lent i ∷ entriesFrom lent (suc i) m
 
 -- What a call is given and what it leaves: kind and number of slots, how many octets are lent for the log, and its entries. Octets behind these are not
 -- looked at.
-pub record State : Type 0 where
+pub record LogState : Type 0 where
   pub kind : Kind
   pub slots : ℕ
   pub lent : ℕ
   pub log : List Entry
 
-abbrev pub stateIn : Log → List ℕ → State
+abbrev pub stateIn : Log → List ℕ → LogState
 stateIn l lent = record { kind = l .kind; slots = l .slots; lent = length lent; log = entriesFrom lent 0 (l .count) }

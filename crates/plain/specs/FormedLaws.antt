@@ -25,9 +25,9 @@ use Rattle.formed.specs.Laws.{Formed, UsedSlot, slot-count, number-told}
 use Rattle.series.specs.PartLaws.{total-bounds}
 use Rattle.plain.specs.Entries.{Entry}
 use Rattle.plain.specs.Log as log
-use Rattle.plain.specs.Log.{first, isSome, has, isPart, ofSlot, without}
+use Rattle.plain.specs.Log.{firstEntry, isSome, hasEntry, isPart, ofSlot, without}
 use Rattle.plain.specs.Engine.{entryFits, against, rankFits, lacksOne, entryFormed, allOf, noneTwice, logFormed}
-use Rattle.plain.specs.Same.{All, nil, cons, Once, nothing, one, Fits, Same}
+use Rattle.plain.specs.Same.{All, nil, cons, Once, once-none, once-more, Fits, SameLog}
 use Rattle.plain.specs.Walks.{has-none, all-weaker, all-only}
 use Rattle.plain.specs.Copies.{used-at, has-part, has-rank, not-of}
 
@@ -38,10 +38,10 @@ all-of P p (x ∷ l) (cons h t) f = rw (f x h, all-of P p l t f)
 
 none-twice : (l : List Entry) → Once l → noneTwice l ≡ true
 unfolding noneTwice
-none-twice [] nothing = refl
-none-twice (x ∷ l) (one h t) = rw (h, none-twice l t)
+none-twice [] once-none = refl
+none-twice (x ∷ l) (once-more h t) = rw (h, none-twice l t)
 
-module _ (n : ℕ) (k : Kind) (xs : List Slot) (cells : List ℕ) (l : List Entry) (w : Formed n k xs) (h : Same n xs cells l) where
+module _ (n : ℕ) (k : Kind) (xs : List Slot) (cells : List ℕ) (l : List Entry) (w : Formed n k xs) (h : SameLog n xs cells l) where
   abbrev rankOf : ℕ → ℕ
   rankOf j = slotAt xs j .rank
 
@@ -79,7 +79,7 @@ module _ (n : ℕ) (k : Kind) (xs : List Slot) (cells : List ℕ) (l : List Entr
           b′,
         )
 
-    alone : has (against e) l ≡ false
+    alone : hasEntry (against e) l ≡ false
     alone = has-none (Fits n xs cells) (against e) l (h .each) (λ y g t. go y g (same? (y .slot) (e .slot)) t)
       where
         go : (y : Entry) → Fits n xs cells y → tests.Same (y .slot) (e .slot) → against e y ≡ true → ⊥
@@ -116,14 +116,14 @@ module _ (n : ℕ) (k : Kind) (xs : List Slot) (cells : List ℕ) (l : List Entr
             rw (q, has-rank n k xs cells l w h j (e .rank - 1) m (omega (arith, f .used)) (eqb-true (rankOf j) (e .rank - 2 + 1) z ∙ omega (arith, f .used)))
 
     lacks-one : lacksOne l e ≡ true
-    lacks-one = go (allBelow (e .total) (λ j. has (isPart (e .slot) (j + 1)) l)) refl
+    lacks-one = go (allBelow (e .total) (λ j. hasEntry (isPart (e .slot) (j + 1)) l)) refl
       where
-        go : (b : Bool) → allBelow (e .total) (λ j. has (isPart (e .slot) (j + 1)) l) ≡ b → not b ≡ true
+        go : (b : Bool) → allBelow (e .total) (λ j. hasEntry (isPart (e .slot) (j + 1)) l) ≡ b → not b ≡ true
         go false q = refl
         go true q =
             let m = count-mono mostParts (λ i. ltb i (e .total)) (markAt x) (λ i o z.
             let v : i + 1 - 1 ≡ i = omega arith in
-            let y : heldAt x (i + 1) ≡ true = sym (has-part n k xs cells l w h (e .slot) (i + 1) (f .inside) (omega arith) (omega arith)) ∙ all-at (e .total) (λ j. has (isPart (e .slot) (j + 1)) l) q i (ltb-true i (e .total) z) in
+            let y : heldAt x (i + 1) ≡ true = sym (has-part n k xs cells l w h (e .slot) (i + 1) (f .inside) (omega arith) (omega arith)) ∙ all-at (e .total) (λ j. hasEntry (isPart (e .slot) (j + 1)) l) q i (ltb-true i (e .total) z) in
             rw v at y) in
             absurd (omega (arith, m, count-below mostParts (e .total) most, series-of .more, f .total))
 
@@ -185,28 +185,28 @@ by-slots (suc m) b l a f =
     step x y z p q r = rw (suc-mul m b) (omega arith)
 
 -- the entries of a slot are no more than its parts
-pub by-numbers : (i : ℕ) (l : List Entry) → All (λ e. (1 ≤ e .number) × (e .number ≤ mostParts)) l → Once l → countSlot i l ≤ countBelow mostParts (λ j. has (isPart i (j + 1)) l)
-unfolding first countSlot
-by-numbers i [] nil nothing = omega arith
-by-numbers i (e ∷ l) (cons (a, b) t) (one h o) = go (same? (e .slot) i) (by-numbers i l t o)
+pub by-numbers : (i : ℕ) (l : List Entry) → All (λ e. (1 ≤ e .number) × (e .number ≤ mostParts)) l → Once l → countSlot i l ≤ countBelow mostParts (λ j. hasEntry (isPart i (j + 1)) l)
+unfolding firstEntry countSlot
+by-numbers i [] nil once-none = omega arith
+by-numbers i (e ∷ l) (cons (a, b) t) (once-more h o) = go (same? (e .slot) i) (by-numbers i l t o)
   where
-    go : tests.Same (e .slot) i → countSlot i l ≤ countBelow mostParts (λ j. has (isPart i (j + 1)) l)
-        → cond (ofSlot i e) (suc (countSlot i l)) (countSlot i l) ≤ countBelow mostParts (λ j. isSome (cond (ofSlot i e && eqb (e .number) (j + 1)) (some e) (first (isPart i (j + 1)) l)))
+    go : tests.Same (e .slot) i → countSlot i l ≤ countBelow mostParts (λ j. hasEntry (isPart i (j + 1)) l)
+        → cond (ofSlot i e) (suc (countSlot i l)) (countSlot i l) ≤ countBelow mostParts (λ j. isSome (cond (ofSlot i e && eqb (e .number) (j + 1)) (some e) (firstEntry (isPart i (j + 1)) l)))
     go (tests.other q p) ih = simp q ih
     go (tests.same q p) ih =
         let v : e .number - 1 + 1 ≡ e .number = omega arith in
-        let c : countBelow mostParts (λ j. isSome (cond (eqb (e .number) (j + 1)) (some e) (first (isPart i (j + 1)) l))) ≡ suc (countBelow mostParts (λ j. has (isPart i (j + 1)) l)) =
-        count-one mostParts (λ j. has (isPart i (j + 1)) l) (λ j. isSome (cond (eqb (e .number) (j + 1)) (some e) (first (isPart i (j + 1)) l))) (e .number - 1) (omega arith)
+        let c : countBelow mostParts (λ j. isSome (cond (eqb (e .number) (j + 1)) (some e) (firstEntry (isPart i (j + 1)) l))) ≡ suc (countBelow mostParts (λ j. hasEntry (isPart i (j + 1)) l)) =
+        count-one mostParts (λ j. hasEntry (isPart i (j + 1)) l) (λ j. isSome (cond (eqb (e .number) (j + 1)) (some e) (firstEntry (isPart i (j + 1)) l))) (e .number - 1) (omega arith)
         (rw (v, ← p) h) (rw (eq-eqb (e .number) (e .number - 1 + 1) (omega arith))) (λ j l ne. rw (ne-eqb (e .number) (j + 1) (λ z. ne (omega arith)))) in
         simp q (omega arith)
 
-module _ (n : ℕ) (k : Kind) (xs : List Slot) (cells : List ℕ) (l : List Entry) (w : Formed n k xs) (h : Same n xs cells l) where
+module _ (n : ℕ) (k : Kind) (xs : List Slot) (cells : List ℕ) (l : List Entry) (w : Formed n k xs) (h : SameLog n xs cells l) where
   few : (i : ℕ) → i < n → countSlot i l ≤ 15
   few i inside = go (same? (slotAt xs i .rank) 0)
     where
-      marks : countBelow mostParts (λ j. has (isPart i (j + 1)) l) ≡ heldCount (slotAt xs i)
+      marks : countBelow mostParts (λ j. hasEntry (isPart i (j + 1)) l) ≡ heldCount (slotAt xs i)
       marks =
-          count-same mostParts (markAt (slotAt xs i)) (λ j. has (isPart i (j + 1)) l)
+          count-same mostParts (markAt (slotAt xs i)) (λ j. hasEntry (isPart i (j + 1)) l)
           (λ j m. let v : j + 1 - 1 ≡ j = omega arith in has-part n k xs cells l w h i (j + 1) inside (omega arith) (omega arith) ∙ rw v)
 
       at-most : countSlot i l ≤ heldCount (slotAt xs i)
@@ -220,5 +220,5 @@ module _ (n : ℕ) (k : Kind) (xs : List Slot) (cells : List ℕ) (l : List Entr
           let u = used-at n k xs cells l w h i inside (omega arith) in
           omega (arith, at-most, u .more, total-bounds (slotAt xs i .key) (slotAt xs i .total) (u .total) .1)
 
-  pub room : length l ≤ n * 15
-  room = by-slots n 15 l (all-weaker (Fits n xs cells) (λ e. e .slot < n) l (h .each) (λ e f. f .inside)) few
+  pub entry-room : length l ≤ n * 15
+  entry-room = by-slots n 15 l (all-weaker (Fits n xs cells) (λ e. e .slot < n) l (h .each) (λ e f. f .inside)) few

@@ -19,16 +19,16 @@ use Rattle.plain.specs.Entries.{Entry}
 
 -- ---- walks
 -- the first entry that passes a test, and whether there is one
-unfoldable pub first : (Entry → Bool) → List Entry → Option Entry
-first p [] = none
-first p (e ∷ log) = cond (p e) (some e) (first p log)
+unfoldable pub firstEntry : (Entry → Bool) → List Entry → Option Entry
+firstEntry p [] = none
+firstEntry p (e ∷ log) = cond (p e) (some e) (firstEntry p log)
 
 abbrev pub isSome : Option Entry → Bool
 isSome none = false
 isSome (some e) = true
 
-abbrev pub has : (Entry → Bool) → List Entry → Bool
-has p log = isSome (first p log)
+abbrev pub hasEntry : (Entry → Bool) → List Entry → Bool
+hasEntry p log = isSome (firstEntry p log)
 
 -- what is looked for: a key, a slot, a part of a slot, a rank
 abbrev pub hasKey : Key → Entry → Bool
@@ -40,13 +40,13 @@ ofSlot i e = eqb (e .slot) i
 abbrev pub isPart : ℕ → ℕ → Entry → Bool
 isPart i number e = eqb (e .slot) i && eqb (e .number) number
 
-abbrev pub hasRank : ℕ → Entry → Bool
-hasRank r e = eqb (e .rank) r
+abbrev pub ofRank : ℕ → Entry → Bool
+ofRank r e = eqb (e .rank) r
 
 -- the lowest of the m slots from i on that no entry names: one walk for each slot
 unfoldable pub freeFrom : List Entry → ℕ → ℕ → Option ℕ
 freeFrom log i zero = none
-freeFrom log i (suc m) = cond (has (ofSlot i) log) (freeFrom log (suc i) m) (some i)
+freeFrom log i (suc m) = cond (hasEntry (ofSlot i) log) (freeFrom log (suc i) m) (some i)
 
 -- ---- copies
 -- the log with the entries alone that pass a test, and so without the series of slot i
@@ -58,20 +58,20 @@ abbrev pub without : ℕ → List Entry → List Entry
 without i log = only (λ e. not (ofSlot i e)) log
 
 -- the entry, with another rank and another count of beats
-abbrev pub noted : ℕ → ℕ → Entry → Entry
-noted rank beats e =
+abbrev pub notedAs : ℕ → ℕ → Entry → Entry
+notedAs rank beats e =
     record { slot = e .slot; rank = rank; beats = beats; key = e .key; total = e .total; number = e .number; size = e .size; octets = e .octets }
 
 -- The series of slot i, of rank r before (0: it is new), comes to the front and its count is 0; what was more recent is one less so.
 abbrev pub touched : ℕ → ℕ → Entry → Entry
-touched i r e = noted (cond (ofSlot i e) 1 (aged r (e .rank))) (cond (ofSlot i e) 0 (e .beats)) e
+touched i r e = notedAs (cond (ofSlot i e) 1 (aged r (e .rank))) (cond (ofSlot i e) 0 (e .beats)) e
 
 abbrev pub touch : ℕ → ℕ → List Entry → List Entry
 touch i r log = map (touched i r) log
 
 -- A series of rank r was dropped: what was less recent moves up by one.
 abbrev pub movedUp : ℕ → Entry → Entry
-movedUp r e = noted (closed r (e .rank)) (e .beats) e
+movedUp r e = notedAs (closed r (e .rank)) (e .beats) e
 
 abbrev pub close : ℕ → List Entry → List Entry
 close r log = map (movedUp r) log
@@ -86,9 +86,9 @@ pub record Result : Type 0 where
 abbrev pub result : Answer → List Entry → List ℕ → Result
 result a log output = record { answer = a; log = log; output = output }
 
-abbrev pub handOut : List Entry → List ℕ → Option (List ℕ) → Result
-handOut log output none = result (refusedBy 9) log output
-handOut log output (some p) = result (packet (length p)) log (p ++ drop (length p) output)
+abbrev pub logHandOut : List Entry → List ℕ → Option (List ℕ) → Result
+logHandOut log output none = result (refusedBy 9) log output
+logHandOut log output (some p) = result (packet (length p)) log (p ++ drop (length p) output)
 
 abbrev pub octetsIn : Option Entry → List ℕ
 octetsIn none = []
@@ -100,42 +100,42 @@ module _ (n : ℕ) (kind : Kind) (log : List Entry) (output : List ℕ) (key : K
   newEntry i = record { slot = i; rank = 1; beats = 0; key = key; total = total; number = number; size = length octets; octets = octets }
 
   -- with this part none of slot i is missing; all of them, one behind the other: one walk for each number
-  abbrev pub complete : ℕ → Bool
-  complete i = allBelow total (λ j. eqb (j + 1) number || has (isPart i (j + 1)) log)
+  abbrev pub logComplete : ℕ → Bool
+  logComplete i = allBelow total (λ j. eqb (j + 1) number || hasEntry (isPart i (j + 1)) log)
 
   abbrev pub whole : ℕ → List ℕ
-  whole i = joined (λ m. cond (eqb m number) octets (octetsIn (first (isPart i m) log))) total
+  whole i = joined (λ m. cond (eqb m number) octets (octetsIn (firstEntry (isPart i m) log))) total
 
   -- Entry e is of the part's series. The part is held with the same octets or with others, or it is the last missing one, or it is kept.
   abbrev pub inPart : Entry → Option Entry → Result
   inPart e (some p) =
       cond (sameOctets (p .octets) octets) (result (heldAlready (e .slot)) (touch (e .slot) (e .rank) log) output) (result (refusedBy 8) log output)
   inPart e none =
-      cond (complete (e .slot)) (handOut (close (e .rank) (without (e .slot) log)) output (packetIn kind (ofPages key) total (whole (e .slot))))
+      cond (logComplete (e .slot)) (logHandOut (close (e .rank) (without (e .slot) log)) output (packetIn kind (ofPages key) total (whole (e .slot))))
       (result (kept (e .slot) false) (touch (e .slot) (e .rank) log ++ newEntry (e .slot) ∷ []) output)
 
   abbrev pub inSeries : Entry → Result
-  inSeries e = cond (not (eqb (e .total) total)) (result (refusedBy 7) log output) (inPart e (first (isPart (e .slot) number) log))
+  inSeries e = cond (not (eqb (e .total) total)) (result (refusedBy 7) log output) (inPart e (firstEntry (isPart (e .slot) number) log))
 
   -- a new series in slot i, which had rank r before: 0 if it was free, n if its series is displaced
-  abbrev pub opens : ℕ → ℕ → Bool → Result
-  opens i r displaced = result (kept i displaced) (touch i r (without i log) ++ newEntry i ∷ []) output
+  abbrev pub logOpens : ℕ → ℕ → Bool → Result
+  logOpens i r displaced = result (kept i displaced) (touch i r (without i log) ++ newEntry i ∷ []) output
 
   -- with no slot free there is an entry of rank n
   abbrev pub displaces : Option Entry → Result
-  displaces none = opens 0 n true
-  displaces (some e) = opens (e .slot) n true
+  displaces none = logOpens 0 n true
+  displaces (some e) = logOpens (e .slot) n true
 
   abbrev pub newSeries : Option ℕ → Result
-  newSeries (some i) = opens i 0 false
-  newSeries none = displaces (first (hasRank n) log)
+  newSeries (some i) = logOpens i 0 false
+  newSeries none = displaces (firstEntry (ofRank n) log)
 
   abbrev pub forSeries : Option Entry → Result
   forSeries none = newSeries (freeFrom log 0 n)
   forSeries (some e) = inSeries e
 
-  unfoldable pub takePart : Result
-  takePart = forSeries (first (hasKey key) log)
+  unfoldable pub logTakePart : Result
+  logTakePart = forSeries (firstEntry (hasKey key) log)
 
 -- ---- a beat
 -- one beat more, and the series of the entry has not reached the limit
@@ -143,7 +143,7 @@ abbrev pub living : ℕ → Entry → Bool
 living limit e = ltb (suc (e .beats)) limit
 
 abbrev pub older : Entry → Entry
-older e = noted (e .rank) (suc (e .beats)) e
+older e = notedAs (e .rank) (suc (e .beats)) e
 
 unfoldable pub logAfterBeat : ℕ → List Entry → List Entry
 logAfterBeat limit log = map older (only (living limit) log)
@@ -152,5 +152,5 @@ logAfterBeat limit log = map older (only (living limit) log)
 abbrev pub dead : ℕ → ℕ → Entry → Bool
 dead limit i e = ofSlot i e && leb limit (suc (e .beats))
 
-abbrev pub droppedBy : ℕ → ℕ → List Entry → ℕ
-droppedBy n limit log = countBelow n (λ i. has (dead limit i) log)
+abbrev pub logDropped : ℕ → ℕ → List Entry → ℕ
+logDropped n limit log = countBelow n (λ i. hasEntry (dead limit i) log)

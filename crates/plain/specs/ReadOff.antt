@@ -21,9 +21,9 @@ use Rattle.formed.specs.Formed.{markAt, sizeAt, slotFormed}
 use Rattle.formed.specs.Laws.{Formed, UsedSlot}
 use Rattle.formed.specs.SlotLaws.{free-is}
 use Rattle.plain.specs.Entries.{Entry}
-use Rattle.plain.specs.Log.{first, isSome, has, ofSlot, isPart}
-use Rattle.plain.specs.Same.{Fits, Same}
-use Rattle.plain.specs.Walks.{is-part, first-tells, Finds, hit, miss, finds?}
+use Rattle.plain.specs.Log.{firstEntry, isSome, hasEntry, ofSlot, isPart}
+use Rattle.plain.specs.Same.{Fits, SameLog}
+use Rattle.plain.specs.Walks.{is-part, first-tells, Finds, finds-one, finds-none, finds?}
 use Rattle.plain.specs.Copies.{used-at, has-part, has-slot, no-slot}
 
 -- f 0, f 1, .. f (m - 1)
@@ -49,29 +49,29 @@ module _ {A : Type 0} where
       go (tests.other e p) ih = List·getD-append (each f m) (f m ∷ []) d i (omega (arith, each-long f m)) ∙ ih (omega arith)
 
 -- ---- what is read off a log
-abbrev pub sizeIn : Option Entry → ℕ
-sizeIn none = 0
-sizeIn (some e) = e .size
+abbrev pub entrySize : Option Entry → ℕ
+entrySize none = 0
+entrySize (some e) = e .size
 
 -- Slot i is free if no entry names it. Else its first entry says what is noted of the series, and the walks for the sixteen parts say which are held.
-abbrev pub slotFrom : List Entry → ℕ → Option Entry → Slot
-slotFrom log i none = freeSlot
-slotFrom log i (some e) = record {
+abbrev pub slotFromLog : List Entry → ℕ → Option Entry → Slot
+slotFromLog log i none = freeSlot
+slotFromLog log i (some e) = record {
   rank = e .rank;
   beats = e .beats;
   key = e .key;
   total = e .total;
-  lengths = each (λ j. sizeIn (first (isPart i (j + 1)) log)) mostParts;
-  held = each (λ j. has (isPart i (j + 1)) log) mostParts;
+  lengths = each (λ j. entrySize (firstEntry (isPart i (j + 1)) log)) mostParts;
+  held = each (λ j. hasEntry (isPart i (j + 1)) log) mostParts;
 }
 
-unfoldable pub slotOf : List Entry → ℕ → Slot
-slotOf log i = slotFrom log i (first (ofSlot i) log)
+unfoldable pub slotInLog : List Entry → ℕ → Slot
+slotInLog log i = slotFromLog log i (firstEntry (ofSlot i) log)
 
 abbrev pub recordOf : ℕ → Kind → List Entry → Record
-recordOf n k log = record { kind = k; count = n; slots = each (slotOf log) mostSlots }
+recordOf n k log = record { kind = k; count = n; slots = each (slotInLog log) mostSlots }
 
-module _ (n : ℕ) (k : Kind) (xs : List Slot) (cells : List ℕ) (log : List Entry) (w : Formed n k xs) (h : Same n xs cells log) where
+module _ (n : ℕ) (k : Kind) (xs : List Slot) (cells : List ℕ) (log : List Entry) (w : Formed n k xs) (h : SameLog n xs cells log) where
   module _ (i : ℕ) (l : i < n) (used : 0 < slotAt xs i .rank) where
     abbrev x : Slot
     x = slotAt xs i
@@ -79,31 +79,31 @@ module _ (n : ℕ) (k : Kind) (xs : List Slot) (cells : List ℕ) (log : List En
     u : UsedSlot k x
     u = used-at n k xs cells log w h i l used
 
-    mark : (j : ℕ) → j < mostParts → has (isPart i (j + 1)) log ≡ markAt x j
+    mark : (j : ℕ) → j < mostParts → hasEntry (isPart i (j + 1)) log ≡ markAt x j
     mark j b = let v : j + 1 - 1 ≡ j = omega arith in has-part n k xs cells log w h i (j + 1) l (omega arith) (omega arith) ∙ rw v
 
-    size-at : (j : ℕ) → j < mostParts → (r : Option Entry) → Finds (isPart i (j + 1)) log r → isSome r ≡ markAt x j → sizeIn r ≡ sizeAt x j
-    size-at j m r (hit e q) z =
+    size-at : (j : ℕ) → j < mostParts → (r : Option Entry) → Finds (isPart i (j + 1)) log r → isSome r ≡ markAt x j → entrySize r ≡ sizeAt x j
+    size-at j m r (finds-one e q) z =
         let (f, t) = first-tells (Fits n xs cells) (isPart i (j + 1)) log (h .each) e q in
         let (a, b) = is-part i (j + 1) e t in
         let v : e .number - 1 ≡ j = omega arith in
         sym (f .size) ∙ rw (a, v)
-    size-at j m r (miss q) z = sym (eqb-true (sizeAt x j) 0 (simp (sym z) at (u .parts j m)))
+    size-at j m r (finds-none q) z = sym (eqb-true (sizeAt x j) 0 (simp (sym z) at (u .parts j m)))
 
-    marks : each (λ j. has (isPart i (j + 1)) log) mostParts ≡ x .held
+    marks : each (λ j. hasEntry (isPart i (j + 1)) log) mostParts ≡ x .held
     marks =
-        ext-getD false (each (λ j. has (isPart i (j + 1)) log) mostParts) (x .held) (each-long (λ j. has (isPart i (j + 1)) log) mostParts ∙ sym (u .marks))
-        (λ j m. let b : j < mostParts = omega (arith, each-long (λ j. has (isPart i (j + 1)) log) mostParts) in
-        each-at (λ j. has (isPart i (j + 1)) log) false mostParts j b ∙ mark j b)
+        ext-getD false (each (λ j. hasEntry (isPart i (j + 1)) log) mostParts) (x .held) (each-long (λ j. hasEntry (isPart i (j + 1)) log) mostParts ∙ sym (u .marks))
+        (λ j m. let b : j < mostParts = omega (arith, each-long (λ j. hasEntry (isPart i (j + 1)) log) mostParts) in
+        each-at (λ j. hasEntry (isPart i (j + 1)) log) false mostParts j b ∙ mark j b)
 
-    sizes : each (λ j. sizeIn (first (isPart i (j + 1)) log)) mostParts ≡ x .lengths
+    sizes : each (λ j. entrySize (firstEntry (isPart i (j + 1)) log)) mostParts ≡ x .lengths
     sizes =
-        ext-getD 0 (each (λ j. sizeIn (first (isPart i (j + 1)) log)) mostParts) (x .lengths) (each-long (λ j. sizeIn (first (isPart i (j + 1)) log)) mostParts ∙ sym (u .lengths))
-        (λ j m. let b : j < mostParts = omega (arith, each-long (λ j. sizeIn (first (isPart i (j + 1)) log)) mostParts) in
-        each-at (λ j. sizeIn (first (isPart i (j + 1)) log)) 0 mostParts j b ∙ size-at j b (first (isPart i (j + 1)) log) (finds? (isPart i (j + 1)) log) (mark j b))
+        ext-getD 0 (each (λ j. entrySize (firstEntry (isPart i (j + 1)) log)) mostParts) (x .lengths) (each-long (λ j. entrySize (firstEntry (isPart i (j + 1)) log)) mostParts ∙ sym (u .lengths))
+        (λ j m. let b : j < mostParts = omega (arith, each-long (λ j. entrySize (firstEntry (isPart i (j + 1)) log)) mostParts) in
+        each-at (λ j. entrySize (firstEntry (isPart i (j + 1)) log)) 0 mostParts j b ∙ size-at j b (firstEntry (isPart i (j + 1)) log) (finds? (isPart i (j + 1)) log) (mark j b))
 
-    used-slot : (r : Option Entry) → Finds (ofSlot i) log r → slotFrom log i r ≡ x
-    used-slot r (hit e q) =
+    used-slot : (r : Option Entry) → Finds (ofSlot i) log r → slotFromLog log i r ≡ x
+    used-slot r (finds-one e q) =
         let (f, t) = first-tells (Fits n xs cells) (ofSlot i) log (h .each) e q in
         let p : e .slot ≡ i = eqb-true (e .slot) i t in
         let a : e .rank ≡ x .rank = sym (f .rank) ∙ rw p in
@@ -113,22 +113,22 @@ module _ (n : ℕ) (k : Kind) (xs : List Slot) (cells : List ℕ) (log : List En
         let ls = sizes in
         let hs = marks in
         λ d. record { rank = a d; beats = o d; key = b d; total = c d; lengths = ls d; held = hs d }
-    used-slot r (miss q) = absurd (clash (has (ofSlot i) log) (has-slot n k xs cells log w h i l used) q)
+    used-slot r (finds-none q) = absurd (clash (hasEntry (ofSlot i) log) (has-slot n k xs cells log w h i l used) q)
 
-  free-slot : (i : ℕ) → slotFormed k (slotAt xs i) ≡ true → slotAt xs i .rank ≡ 0 → (r : Option Entry) → Finds (ofSlot i) log r → slotFrom log i r ≡ slotAt xs i
-  free-slot i f z r (miss q) = sym (free-is k (slotAt xs i) f z)
-  free-slot i f z r (hit e q) = absurd (clash (has (ofSlot i) log) (rw q) (no-slot n k xs cells log w h i z))
+  free-slot : (i : ℕ) → slotFormed k (slotAt xs i) ≡ true → slotAt xs i .rank ≡ 0 → (r : Option Entry) → Finds (ofSlot i) log r → slotFromLog log i r ≡ slotAt xs i
+  free-slot i f z r (finds-none q) = sym (free-is k (slotAt xs i) f z)
+  free-slot i f z r (finds-one e q) = absurd (clash (hasEntry (ofSlot i) log) (rw q) (no-slot n k xs cells log w h i z))
 
-  slot-read : (i : ℕ) → i < mostSlots → slotOf log i ≡ slotAt xs i
-  unfolding slotOf
+  slot-read : (i : ℕ) → i < mostSlots → slotInLog log i ≡ slotAt xs i
+  unfolding slotInLog
   slot-read i l = go (ltb i n) refl (same? (slotAt xs i .rank) 0)
     where
-      go : (b : Bool) → ltb i n ≡ b → tests.Same (slotAt xs i .rank) 0 → slotFrom log i (first (ofSlot i) log) ≡ slotAt xs i
-      go true b (tests.same e p) = free-slot i (w .slots i (ltb-true i n b)) p (first (ofSlot i) log) (finds? (ofSlot i) log)
-      go true b (tests.other e p) = used-slot i (ltb-true i n b) (omega arith) (first (ofSlot i) log) (finds? (ofSlot i) log)
-      go false b s = let (f, z) = w .rest i (ltb-false i n b) l in free-slot i f z (first (ofSlot i) log) (finds? (ofSlot i) log)
+      go : (b : Bool) → ltb i n ≡ b → tests.Same (slotAt xs i .rank) 0 → slotFromLog log i (firstEntry (ofSlot i) log) ≡ slotAt xs i
+      go true b (tests.same e p) = free-slot i (w .slots i (ltb-true i n b)) p (firstEntry (ofSlot i) log) (finds? (ofSlot i) log)
+      go true b (tests.other e p) = used-slot i (ltb-true i n b) (omega arith) (firstEntry (ofSlot i) log) (finds? (ofSlot i) log)
+      go false b s = let (f, z) = w .rest i (ltb-false i n b) l in free-slot i f z (firstEntry (ofSlot i) log) (finds? (ofSlot i) log)
 
-  pub read-off : each (slotOf log) mostSlots ≡ xs
+  pub read-off : each (slotInLog log) mostSlots ≡ xs
   read-off =
-      ext-getD past (each (slotOf log) mostSlots) xs (each-long (slotOf log) mostSlots ∙ sym (w .array))
-      (λ i m. let b : i < mostSlots = omega (arith, each-long (slotOf log) mostSlots) in each-at (slotOf log) past mostSlots i b ∙ slot-read i b)
+      ext-getD past (each (slotInLog log) mostSlots) xs (each-long (slotInLog log) mostSlots ∙ sym (w .array))
+      (λ i m. let b : i < mostSlots = omega (arith, each-long (slotInLog log) mostSlots) in each-at (slotInLog log) past mostSlots i b ∙ slot-read i b)

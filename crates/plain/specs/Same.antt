@@ -10,7 +10,7 @@ use Rattle.slots.specs.Slots.{slotAt, heldAt, lengthAt}
 use Rattle.cells.specs.Cells.{cellPart}
 use Rattle.series.specs.Taking.{After}
 use Rattle.plain.specs.Entries.{Entry}
-use Rattle.plain.specs.Log.{has, isPart, Result}
+use Rattle.plain.specs.Log.{hasEntry, isPart, Result}
 
 -- a claim holds of each entry
 pub data All (P : Entry → Type 0) : List Entry → Type 0 where
@@ -19,8 +19,8 @@ pub data All (P : Entry → Type 0) : List Entry → Type 0 where
 
 -- no part of a slot is there twice
 pub data Once : List Entry → Type 0 where
-  nothing : Once []
-  one : {e : Entry} {log : List Entry} → has (isPart (e .slot) (e .number)) log ≡ false → Once log → Once (e ∷ log)
+  once-none : Once []
+  once-more : {e : Entry} {log : List Entry} → hasEntry (isPart (e .slot) (e .number)) log ≡ false → Once log → Once (e ∷ log)
 
 -- The entry is of one of the n slots. What it notes of the series is what the slot says, the slot holds a part of that number and size, and the cell of
 -- this part holds its octets.
@@ -37,13 +37,13 @@ pub record Fits (n : ℕ) (xs : List Slot) (cells : List ℕ) (e : Entry) : Type
   pub size : lengthAt (slotAt xs (e .slot)) (e .number) ≡ e .size
   pub octets : cellPart cells (slotAt xs (e .slot)) (e .slot) (e .number) ≡ e .octets
 
-pub record Same (n : ℕ) (xs : List Slot) (cells : List ℕ) (log : List Entry) : Type 0 where
+pub record SameLog (n : ℕ) (xs : List Slot) (cells : List ℕ) (log : List Entry) : Type 0 where
   pub each : All (Fits n xs cells) log
-  pub back : (i number : ℕ) → i < n → 1 ≤ number → number ≤ mostParts → heldAt (slotAt xs i) number ≡ true → has (isPart i number) log ≡ true
+  pub back : (i number : ℕ) → i < n → 1 ≤ number → number ≤ mostParts → heldAt (slotAt xs i) number ≡ true → hasEntry (isPart i number) log ≡ true
   pub once : Once log
 
 -- a part came to the same through both engines
 pub record Equal (n : ℕ) (p : Result) (a : After) : Type 0 where
   pub answer : p .answer ≡ a .answer
   pub output : p .output ≡ a .state .output
-  pub same : Same n (a .state .rec .slots) (a .state .cells) (p .log)
+  pub same : SameLog n (a .state .rec .slots) (a .state .cells) (p .log)

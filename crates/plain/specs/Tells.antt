@@ -18,10 +18,10 @@ use Rattle.slots.specs.Slots.{mostSlots, isSlotNumber, sameKey}
 use Rattle.formed.specs.Formed.{mostBeats}
 use Rattle.formed.specs.Laws.{number-tells}
 use Rattle.series.specs.PartLaws.{total-bounds}
-use Rattle.plain.specs.Entries.{Entry, State, logOctets, mostEntries}
-use Rattle.plain.specs.Log.{has, isPart, ofSlot}
+use Rattle.plain.specs.Entries.{Entry, LogState, logOctets, mostEntries}
+use Rattle.plain.specs.Log.{hasEntry, isPart, ofSlot}
 use Rattle.plain.specs.Engine.{entryFits, agrees, contends, against, rankFits, lacksOne, entryFormed, allOf, noneTwice, logFormed, stateFormed}
-use Rattle.plain.specs.Same.{All, nil, cons, Once, nothing, one}
+use Rattle.plain.specs.Same.{All, nil, cons, Once, once-none, once-more}
 use Rattle.plain.specs.Walks.{is-part, has-tells, none-all, all-and, all-weaker}
 use Rattle.plain.specs.FormedLaws.{countSlot, none-of, by-slots, by-numbers}
 
@@ -36,15 +36,15 @@ pub record Ok (n : ℕ) (k : Kind) (log : List Entry) (e : Entry) : Type 0 where
   pub low : 1 ≤ e .number
   pub high : e .number ≤ e .total
   pub length : lengthFits (e .key) (e .number) (e .size) ≡ true
-  pub alone : has (against e) log ≡ false
+  pub alone : hasEntry (against e) log ≡ false
   pub gap : rankFits log e ≡ true
-  pub lacks : allBelow (e .total) (λ j. has (isPart (e .slot) (j + 1)) log) ≡ false
+  pub lacks : allBelow (e .total) (λ j. hasEntry (isPart (e .slot) (j + 1)) log) ≡ false
 
 pub ok-of : (n : ℕ) (k : Kind) (log : List Entry) (e : Entry) → entryFormed n k log e ≡ true → Ok n k log e
 ok-of n k log e t =
-    let (t₁, lacks) = both (entryFits n k e && not (has (against e) log) && rankFits log e) (lacksOne log e) t in
-    let (t₂, gap) = both (entryFits n k e && not (has (against e) log)) (rankFits log e) t₁ in
-    let (fits, alone) = both (entryFits n k e) (not (has (against e) log)) t₂ in
+    let (t₁, lacks) = both (entryFits n k e && not (hasEntry (against e) log) && rankFits log e) (lacksOne log e) t in
+    let (t₂, gap) = both (entryFits n k e && not (hasEntry (against e) log)) (rankFits log e) t₁ in
+    let (fits, alone) = both (entryFits n k e) (not (hasEntry (against e) log)) t₂ in
     let (f₁, a₉) = both (ltb (e .slot) n && ltb 0 (e .rank) && leb (e .rank) n && leb (e .beats) mostBeats && keyFormed k (e .key) && totalFits (e .key) (e .total) && ltb 0 (e .number) && leb (e .number) (e .total)) (lengthFits (e .key) (e .number) (e .size)) fits in
     let (f₂, a₈) = both (ltb (e .slot) n && ltb 0 (e .rank) && leb (e .rank) n && leb (e .beats) mostBeats && keyFormed k (e .key) && totalFits (e .key) (e .total) && ltb 0 (e .number)) (leb (e .number) (e .total)) f₁ in
     let (f₃, a₇) = both (ltb (e .slot) n && ltb 0 (e .rank) && leb (e .rank) n && leb (e .beats) mostBeats && keyFormed k (e .key) && totalFits (e .key) (e .total)) (ltb 0 (e .number)) f₂ in
@@ -63,9 +63,9 @@ ok-of n k log e t =
       low = ltb-true 0 (e .number) a₇;
       high = leb-true (e .number) (e .total) a₈;
       length = a₉;
-      alone = not-true (has (against e) log) alone;
+      alone = not-true (hasEntry (against e) log) alone;
       gap = gap;
-      lacks = not-true (allBelow (e .total) (λ j. has (isPart (e .slot) (j + 1)) log)) lacks;
+      lacks = not-true (allBelow (e .total) (λ j. hasEntry (isPart (e .slot) (j + 1)) log)) lacks;
     }
 
 -- ---- the whole log
@@ -76,25 +76,25 @@ all-told p (e ∷ log) h = let (a, b) = both (p e) (allOf p log) h in cons a (al
 
 once-told : (log : List Entry) → noneTwice log ≡ true → Once log
 unfolding noneTwice
-once-told [] h = nothing
+once-told [] h = once-none
 once-told (e ∷ log) h =
-    let (a, b) = both (not (has (isPart (e .slot) (e .number)) log)) (noneTwice log) h in one (not-true (has (isPart (e .slot) (e .number)) log) a) (once-told log b)
+    let (a, b) = both (not (hasEntry (isPart (e .slot) (e .number)) log)) (noneTwice log) h in once-more (not-true (hasEntry (isPart (e .slot) (e .number)) log) a) (once-told log b)
 
-pub formed-tells : (n : ℕ) (k : Kind) (log : List Entry) → logFormed n k log ≡ true → All (Ok n k log) log × Once log
+pub log-formed-tells : (n : ℕ) (k : Kind) (log : List Entry) → logFormed n k log ≡ true → All (Ok n k log) log × Once log
 unfolding logFormed
-formed-tells n k log h =
+log-formed-tells n k log h =
     let (a, b) = both (isSlotNumber n && allOf (entryFormed n k log) log) (noneTwice log) h in
     let (c, d) = both (isSlotNumber n) (allOf (entryFormed n k log) log) a in
     (all-weaker (λ e. entryFormed n k log e ≡ true) (Ok n k log) log (all-told (entryFormed n k log) log d) (ok-of n k log), once-told log b)
 
 -- ---- two entries
-pub record Agree (e x : Entry) : Type 0 where
+pub record EntriesAgree (e x : Entry) : Type 0 where
   pub rank : x .rank ≡ e .rank
   pub beats : x .beats ≡ e .beats
   pub key : x .key ≡ e .key
   pub total : x .total ≡ e .total
 
-pub agreeing : (e x : Entry) → against e x ≡ false → x .slot ≡ e .slot → Agree e x
+pub agreeing : (e x : Entry) → against e x ≡ false → x .slot ≡ e .slot → EntriesAgree e x
 agreeing e x h p =
     let t : agrees e x ≡ true = not-false (agrees e x) (simp (eq-eqb (x .slot) (e .slot) p) at h) in
     let (t₁, d) = both (eqb (x .rank) (e .rank) && eqb (x .beats) (e .beats) && sameKey (x .key) (e .key)) (eqb (x .total) (e .total)) t in
@@ -122,37 +122,37 @@ differing e x h ne =
 -- of one slot fewer than its parts: one of them is missing, and none is there twice
 module _ (n : ℕ) (k : Kind) (log : List Entry) (ok : All (Ok n k log) log) (once : Once log) where
   of-slot : (i : ℕ) → i < n → countSlot i log ≤ 15
-  of-slot i l = by-test (has (ofSlot i) log) some none
+  of-slot i l = by-test (hasEntry (ofSlot i) log) some none
     where
       -- a part of the slot is not past the total, which its entries agree in
-      inside : (e : Entry) → Ok n k log e → e .slot ≡ i → (j : ℕ) → has (isPart i (j + 1)) log ≡ true → ltb j (e .total) ≡ true
+      inside : (e : Entry) → Ok n k log e → e .slot ≡ i → (j : ℕ) → hasEntry (isPart i (j + 1)) log ≡ true → ltb j (e .total) ≡ true
       inside e o p j q =
           let (x, (ox, a), t) = has-tells (λ x. Ok n k log x × (against e x ≡ false)) (isPart i (j + 1)) log (all-and (Ok n k log) (λ x. against e x ≡ false) log ok (none-all (against e) log (o .alone))) q in
           let (s, m) = is-part i (j + 1) x t in
           lt-ltb j (e .total) (omega (arith, ox .high, agreeing e x a (s ∙ sym p) .total))
 
-      none : has (ofSlot i) log ≡ false → countSlot i log ≤ 15
+      none : hasEntry (ofSlot i) log ≡ false → countSlot i log ≤ 15
       none h = omega (arith, none-of i log (all-weaker (λ e. ofSlot i e ≡ false) (λ e. e .slot ≡ i → ⊥) log (none-all (ofSlot i) log h) (λ e q. eqb-false (e .slot) i q)))
 
-      some : has (ofSlot i) log ≡ true → countSlot i log ≤ 15
+      some : hasEntry (ofSlot i) log ≡ true → countSlot i log ≤ 15
       some h =
           let (e, o, t) = has-tells (Ok n k log) (ofSlot i) log ok h in
           let p : e .slot ≡ i = eqb-true (e .slot) i t in
           let most = total-bounds (e .key) (e .total) (o .total) .1 in
-          let (j, m, gone) = all-fails (e .total) (λ j. has (isPart (e .slot) (j + 1)) log) (o .lacks) in
+          let (j, m, gone) = all-fails (e .total) (λ j. hasEntry (isPart (e .slot) (j + 1)) log) (o .lacks) in
           let few = by-numbers i log (all-weaker (Ok n k log) (λ e. (1 ≤ e .number) × (e .number ≤ mostParts)) log ok (λ e o. (o .low, omega (arith, o .high, total-bounds (e .key) (e .total) (o .total) .1)))) once in
-          let less : countBelow mostParts (λ j. has (isPart i (j + 1)) log) < countBelow mostParts (λ j. ltb j (e .total)) =
-          count-less mostParts (λ j. has (isPart i (j + 1)) log) (λ j. ltb j (e .total)) (λ j b q. inside e o p j q) j (omega arith) (ap (λ (z : ℕ). has (isPart z (j + 1)) log) (sym p) ∙ gone) (lt-ltb j (e .total) m) in
+          let less : countBelow mostParts (λ j. hasEntry (isPart i (j + 1)) log) < countBelow mostParts (λ j. ltb j (e .total)) =
+          count-less mostParts (λ j. hasEntry (isPart i (j + 1)) log) (λ j. ltb j (e .total)) (λ j b q. inside e o p j q) j (omega arith) (ap (λ (z : ℕ). hasEntry (isPart z (j + 1)) log) (sym p) ∙ gone) (lt-ltb j (e .total) m) in
           omega (arith, few, less, count-below mostParts (e .total) most)
 
   pub few-entries : n ≤ mostSlots → lists.length log ≤ 75
   few-entries l = omega (arith, by-slots n 15 log (all-weaker (Ok n k log) (λ e. e .slot < n) log ok (λ e o. o .inside)) of-slot)
 
 -- so in lent octets there is room for an entry more
-pub state-room : (s : State) → stateFormed s ≡ true → lists.length (s .log) ≤ 75
+pub state-room : (s : LogState) → stateFormed s ≡ true → lists.length (s .log) ≤ 75
 unfolding stateFormed logFormed
 state-room s h =
     let (a, f) = both (eqb (s .lent) logOctets && leb (lists.length (s .log)) mostEntries) (logFormed (s .slots) (s .kind) (s .log)) h in
-    let (ok, once) = formed-tells (s .slots) (s .kind) (s .log) f in
+    let (ok, once) = log-formed-tells (s .slots) (s .kind) (s .log) f in
     let (b, c) = both (isSlotNumber (s .slots) && allOf (entryFormed (s .slots) (s .kind) (s .log)) (s .log)) (noneTwice (s .log)) f in
     few-entries (s .slots) (s .kind) (s .log) ok once (number-tells (s .slots) (both (isSlotNumber (s .slots)) (allOf (entryFormed (s .slots) (s .kind) (s .log)) (s .log)) b .0) .1)

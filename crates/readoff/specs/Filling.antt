@@ -10,8 +10,8 @@ use Rattle.octets.specs.Tests.{same?}
 use Rattle.types.specs.declared.Slot.{Slot}
 use Rattle.arrival.specs.Message.{mostParts}
 use Rattle.plain.specs.Entries.{Entry}
-use Rattle.plain.specs.Log.{first, has, isPart}
-use Rattle.plain.specs.ReadOff.{each, each-long, each-at, sizeIn}
+use Rattle.plain.specs.Log.{firstEntry, hasEntry, isPart}
+use Rattle.plain.specs.ReadOff.{each, each-long, each-at, entrySize}
 
 -- of `slotFrom`: the series as x says it, with the parts of slot i that are in the log
 abbrev pub withParts : List Entry → ℕ → Slot → Slot
@@ -20,8 +20,8 @@ withParts log i x = record {
   beats = x .beats;
   key = x .key;
   total = x .total;
-  lengths = each (λ j. sizeIn (first (isPart i (j + 1)) log)) mostParts;
-  held = each (λ j. has (isPart i (j + 1)) log) mostParts;
+  lengths = each (λ j. entrySize (firstEntry (isPart i (j + 1)) log)) mostParts;
+  held = each (λ j. hasEntry (isPart i (j + 1)) log) mostParts;
 }
 
 -- ---- an array, filled place by place

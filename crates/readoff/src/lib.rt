@@ -17,13 +17,13 @@ use types::SLOTS;
 use types::Slot;
 ghost use mathlib.Core.Path.{_≡_};
 ghost use Rattle.plain.specs.Entries.{entriesFrom};
-ghost use Rattle.plain.specs.Log.{first, isPart};
-ghost use Rattle.plain.specs.ReadOff.{sizeIn, slotOf, recordOf};
+ghost use Rattle.plain.specs.Log.{firstEntry, isPart};
+ghost use Rattle.plain.specs.ReadOff.{entrySize, slotInLog, recordOf};
 ghost use Rattle.readoff.specs.Filling.{withParts};
 
 // How many octets part `number` of the slot has; 0 if it is not in the log.
 fn size_of(entries: &[u8], count: u8, slot: u8, number: u8) -> u8
-    ensures { λ r. ⌜ r ≡ sizeIn (first (isPart slot number) (entriesFrom (now (entries .entry)) 0 count)) ⌝ }
+    ensures { λ r. ⌜ r ≡ entrySize (firstEntry (isPart slot number) (entriesFrom (now (entries .entry)) 0 count)) ⌝ }
 {
     let i = find(
         entries,
@@ -64,7 +64,7 @@ fn with_parts(entries: &[u8], count: u8, slot: u8, x: Slot) -> Slot
 
 // The slot that is read off the log: free if no entry names it.
 fn slot_read(entries: &[u8], count: u8, slot: u8) -> Slot
-    ensures { λ r. ⌜ r ≡ slotOf (entriesFrom (now (entries .entry)) 0 count) slot ⌝ }
+    ensures { λ r. ⌜ r ≡ slotInLog (entriesFrom (now (entries .entry)) 0 count) slot ⌝ }
 {
     let i = find(entries, 0, count, Sought::OfSlot(slot));
     if i < count {

@@ -1,4 +1,3 @@
-pub mod CopyLaws
 pub mod PacketLaws
 pub mod ReadyLaws
 pub mod TakeLaws

@@ -20,22 +20,22 @@ use Rattle.joined.specs.declared.Size.{Size}
 use Rattle.joined.specs.declared.Size.the-variants as size
 use Rattle.joined.specs.Fronts.{packetIn, frontOf, sizeBy, toldSize, lengthIn, outputWith}
 use Rattle.joined.specs.Laws.{none-told, none-kept, packet-inside, packet-told, packet-written}
-use Rattle.plain.specs.Entries.{Entry, entryAt, entriesFrom}
-use Rattle.plain.specs.Log.{first, isPart}
+use Rattle.plain.specs.Entries.{Entry, logEntryAt, entriesFrom}
+use Rattle.plain.specs.Log.{firstEntry, isPart}
 use Rattle.log.specs.Places.{foundAt}
 use Rattle.log.specs.Laws.{found-some, found-none}
-use Rattle.second.specs.Acting.{pieceOf, wholeOf}
+use Rattle.second.specs.Acting.{logPiece, wholeOf}
 
 -- ---- a part by its number
 module _ (lent : List ℕ) (m slot number : ℕ) (part : List ℕ) (k : ℕ) where
-  pub piece-new : k ≡ number → part ≡ pieceOf (entriesFrom lent 0 m) slot number part k
+  pub piece-new : k ≡ number → part ≡ logPiece (entriesFrom lent 0 m) slot number part k
   piece-new e = rw (eq-eqb k number e)
 
-  module _ (i : ℕ) (x : List ℕ) (ne : k ≡ number → ⊥) (found : foundAt lent m i ≡ first (isPart slot k) (entriesFrom lent 0 (m - 0))) where
-    pub piece-held : i < m → x ≡ entryAt lent i .octets → x ≡ pieceOf (entriesFrom lent 0 m) slot number part k
+  module _ (i : ℕ) (x : List ℕ) (ne : k ≡ number → ⊥) (found : foundAt lent m i ≡ firstEntry (isPart slot k) (entriesFrom lent 0 (m - 0))) where
+    pub piece-held : i < m → x ≡ logEntryAt lent i .octets → x ≡ logPiece (entriesFrom lent 0 m) slot number part k
     piece-held l e = rw (ne-eqb k number ne, found-some (isPart slot k) lent m i found l) e
 
-    pub piece-none : m ≤ i → x ≡ take 0 part → x ≡ pieceOf (entriesFrom lent 0 m) slot number part k
+    pub piece-none : m ≤ i → x ≡ take 0 part → x ≡ logPiece (entriesFrom lent 0 m) slot number part k
     piece-none l e = rw (ne-eqb k number ne, found-none (isPart slot k) lent m i found l) e
 
 pub put-placed : (d e p : List ℕ) (at : ℕ) → at + length p ≤ length d → e ≡ afterPut d at p → e ≡ placed d at p
@@ -54,14 +54,14 @@ joined-grows f k (suc d) =
 
 module _ (log : List Entry) (slot total number : ℕ) (part old : List ℕ) where
   abbrev piece : ℕ → List ℕ
-  piece = pieceOf log slot number part
+  piece = logPiece log slot number part
 
   -- the first k parts stand at the start
   pub record Joins (new : List ℕ) (k at : ℕ) : Type 0 where
     pub within : k ≤ total
     pub long : length new ≡ length old
-    pub size : at ≡ length (joined (pieceOf log slot number part) k)
-    pub is : new ≡ placed old 0 (joined (pieceOf log slot number part) k)
+    pub size : at ≡ length (joined (logPiece log slot number part) k)
+    pub is : new ≡ placed old 0 (joined (logPiece log slot number part) k)
 
   pub join-starts : Joins old 0 0
   unfolding joined placed
@@ -71,7 +71,7 @@ module _ (log : List Entry) (slot total number : ℕ) (part old : List ℕ) wher
     next : k < total → length (joined piece (k + 1)) ≤ length (joined piece total)
     next l = let z : k + 1 + (total - (k + 1)) ≡ total = omega arith in rw z at (joined-grows piece (k + 1) (total - (k + 1)))
 
-    module _ (room : length (wholeOf log slot total number part) ≤ length old) (less : k < total) (p : List ℕ) (is : p ≡ pieceOf log slot number part (k + 1)) where
+    module _ (room : length (wholeOf log slot total number part) ≤ length old) (less : k < total) (p : List ℕ) (is : p ≡ logPiece log slot number part (k + 1)) where
       longer : at + length p ≡ length (joined piece (k + 1))
       longer = rw (joined-more piece k, length-append (joined piece k) (piece (k + 1)), ← w .size, is)
 

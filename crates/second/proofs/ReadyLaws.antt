@@ -1,15 +1,14 @@
--- What a log that passes the test leaves room for: ranks and counts can rise, one entry more fits, and the parts of a series join to no more than the
--- longest packet.
+-- What a log that passes the test leaves room for: it can be changed and have an entry more, and the parts of a series join to no more than the longest
+-- packet.
 use Prim.Native.Nat.{ℕ, zero, suc, _+_, _-_, _*_, _≤_, _<_}
 use mathlib.Core.Path.{_≡_, refl}
-use mathlib.Core.Bool.{Bool, true, false, cond, _&&_}
-use mathlib.Core.List.{List, [], _∷_}
+use mathlib.Core.Bool.{Bool, true, false, cond}
+use mathlib.Core.List.{List}
 use mathlib.Core.Option.{Option}
 use native.Mathlib.Omega.{arith}
 use lib.ListN.{length, length-append, length-take}
 use lib.Dec.{eqb, leb}
-use borrow.Author.Tests.{eqb-true, lt-ltb, leb-true}
-use Rattle.octets.specs.Tests.{both}
+use borrow.Author.Tests.{eqb-true, leb-true}
 use Rattle.octets.specs.Joined.{joined}
 use Rattle.types.specs.declared.Kind.{Kind}
 use Rattle.types.specs.declared.Key.{Key}
@@ -17,43 +16,16 @@ use Rattle.packet.specs.Packets.{mostOctets}
 use Rattle.arrival.specs.Message.{mostParts}
 use Rattle.arrival.specs.Page.{pageContent}
 use Rattle.arrival.specs.Keys.{ofPages, lengthFits}
-use Rattle.slots.specs.Slots.{mostSlots, isSlotNumber}
-use Rattle.formed.specs.Laws.{number-tells}
 use Rattle.series.specs.PartLaws.{total-bounds}
 use Rattle.series.specs.KeepLaws.{short}
-use Rattle.plain.specs.Entries.{Entry, mostEntries, logOctets, entryAt, entriesFrom}
-use Rattle.plain.specs.Log.{first, isPart, octetsIn}
-use Rattle.plain.specs.Engine.{entryFormed, allOf, noneTwice, logFormed}
+use Rattle.plain.specs.Entries.{Entry, logEntryAt, entriesFrom}
+use Rattle.plain.specs.Log.{firstEntry, isPart, octetsIn}
 use Rattle.plain.specs.Same.{All, nil, cons}
-use Rattle.plain.specs.Walks.{Finds, hit, miss, finds?, first-tells, is-part, all-weaker, all-and}
-use Rattle.plain.specs.Tells.{Ok, formed-tells, few-entries}
-use Rattle.second.specs.Copying.{low}
-use Rattle.second.specs.Acting.{Ready, pieceOf, wholeOf}
-use Rattle.log.specs.Laws.{entries-long}
-
--- ---- ranks and counts
-all-of : (p : Entry → Bool) (log : List Entry) → All (λ e. p e ≡ true) log → allOf p log ≡ true
-unfolding allOf
-all-of p [] nil = refl
-all-of p (e ∷ log) (cons x y) = rw (x, all-of p log y)
-
-module _ (n : ℕ) (k : Kind) (log : List Entry) (t : logFormed n k log ≡ true) where
-  few-slots : n ≤ mostSlots
-  unfolding logFormed
-  few-slots =
-      let (t₁, o) = both (isSlotNumber n && allOf (entryFormed n k log) log) (noneTwice log) t in
-      number-tells n (both (isSlotNumber n) (allOf (entryFormed n k log) log) t₁ .0) .1
-
-  entries-ok : All (Ok n k log) log
-  entries-ok = formed-tells n k log t .0
-
-  low-all : allOf low log ≡ true
-  low-all =
-      all-of low log (all-weaker (Ok n k log) (λ e. low e ≡ true) log entries-ok
-      (λ e f. rw (lt-ltb (e .rank) 255 (omega (arith, f .top, few-slots)), lt-ltb (e .beats) 255 (omega (arith, f .beats)))))
-
-  room : length log ≤ 75
-  room = few-entries n k log entries-ok (formed-tells n k log t .1) few-slots
+use Rattle.plain.specs.Walks.{Finds, finds-one, finds-none, finds?, first-tells, is-part, all-and}
+use Rattle.plain.specs.Tells.{Ok}
+use Rattle.copies.specs.Copying.{CanChange, CanKeep}
+use Rattle.copies.specs.FitLaws.{entries-ok, sound-changes, sound-keeps}
+use Rattle.second.specs.Acting.{ReadyLog, logPiece, wholeOf}
 
 -- ---- how many octets
 -- part 1 has two fewer at most
@@ -72,8 +44,8 @@ fits-most x k n = go (ofPages x) (eqb (x .width) 16) (eqb k 1)
     go false false f e = leb-true n (134 - cond f 2 0) e
 
 -- an entry has no more octets than it says
-octets-within : (lent : List ℕ) (i : ℕ) → length (entryAt lent i .octets) ≤ entryAt lent i .size
-unfolding entryAt
+octets-within : (lent : List ℕ) (i : ℕ) → length (logEntryAt lent i .octets) ≤ logEntryAt lent i .size
+unfolding logEntryAt
 octets-within lent i = simp length-take (omega arith)
 
 within : (lent : List ℕ) (m b : ℕ) → All (λ e. length (e .octets) ≤ e .size) (entriesFrom lent b m)
@@ -100,45 +72,36 @@ module _ (n : ℕ) (k₀ : Kind) (lent : List ℕ) (m : ℕ) (ok : All (Ok n k�
   abbrev log : List Entry
   log = entriesFrom lent 0 m
 
-  held-most : (k : ℕ) → length (octetsIn (first (isPart slot k) log)) ≤ mostOf k
-  held-most k = go (first (isPart slot k) log) (finds? (isPart slot k) log)
+  held-most : (k : ℕ) → length (octetsIn (firstEntry (isPart slot k) log)) ≤ mostOf k
+  held-most k = go (firstEntry (isPart slot k) log) (finds? (isPart slot k) log)
     where
       go : (o : Option Entry) → Finds (isPart slot k) log o → length (octetsIn o) ≤ mostOf k
-      go o (hit e q) =
+      go o (finds-one e q) =
           let ((g, l), t) = first-tells (λ e. Ok n k₀ log e × (length (e .octets) ≤ e .size)) (isPart slot k) log (all-and (Ok n k₀ log) (λ e. length (e .octets) ≤ e .size) log ok (within lent m 0)) e q in
           let z : e .number ≡ k = is-part slot k e t .1 in
           let b : e .size ≤ mostOf k = rw (← z) (fits-most (e .key) (e .number) (e .size) (g .length)) in
           omega arith
-      go o (miss q) = omega arith
+      go o (finds-none q) = omega arith
 
-  piece-most : (k : ℕ) → length (pieceOf log slot number part k) ≤ mostOf k
+  piece-most : (k : ℕ) → length (logPiece log slot number part k) ≤ mostOf k
   piece-most k = go (eqb k number) refl
     where
-      go : (b : Bool) → eqb k number ≡ b → length (cond b part (octetsIn (first (isPart slot k) log))) ≤ mostOf k
+      go : (b : Bool) → eqb k number ≡ b → length (cond b part (octetsIn (firstEntry (isPart slot k) log))) ≤ mostOf k
       go true e = rw (eqb-true k number e) (fits-most key number (length part) fits)
       go false e = held-most k
 
   whole-most : (total : ℕ) → total ≤ mostParts → length (wholeOf log slot total number part) ≤ mostOctets
   unfolding joined
   whole-most zero l = omega arith
-  whole-most (suc t) l = omega (arith, joined-most (pieceOf log slot number part) t (λ k u v. piece-most k))
+  whole-most (suc t) l = omega (arith, joined-most (logPiece log slot number part) t (λ k u v. piece-most k))
 
 -- ---- as the functions ask for it
-module _ (n : ℕ) (k : Kind) (lent : List ℕ) (m : ℕ) (key : Key) (total number : ℕ) (part output : List ℕ) (r : Ready n k lent m key total number part output) where
-  pub ready-low : allOf low (entriesFrom lent 0 m) ≡ true
-  ready-low = low-all n k (entriesFrom lent 0 m) (r .sound .formed)
+module _ (n : ℕ) (k : Kind) (lent : List ℕ) (m : ℕ) (key : Key) (total number : ℕ) (part output : List ℕ) (r : ReadyLog n k lent m key total number part output) where
+  pub ready-change : CanChange lent m
+  ready-change = sound-changes n k lent m (r .sound)
 
-  pub ready-room : m < mostEntries
-  ready-room = omega (arith, room n k (entriesFrom lent 0 m) (r .sound .formed), entries-long lent m 0)
-
-  pub ready-most : m ≤ mostEntries
-  ready-most = r .sound .most
-
-  pub ready-long : length lent ≡ logOctets
-  ready-long = r .sound .long
-
-  pub ready-short : length part ≤ 134
-  ready-short = short key number (length part) (r .admitted .lengthFits)
+  pub ready-keep : CanKeep lent m part
+  ready-keep = sound-keeps n k lent m part (r .sound) (short key number (length part) (r .admitted .lengthFits))
 
   pub ready-wide : length output ≡ mostOctets
   ready-wide = r .wide
@@ -146,15 +109,9 @@ module _ (n : ℕ) (k : Kind) (lent : List ℕ) (m : ℕ) (key : Key) (total num
   pub ready-whole : (slot : ℕ) → length (wholeOf (entriesFrom lent 0 m) slot total number part) ≤ mostOctets
   ready-whole slot = whole-most n k lent m (entries-ok n k (entriesFrom lent 0 m) (r .sound .formed)) slot number part key (r .admitted .lengthFits) total (total-bounds key total (r .admitted .totalFits) .1)
 
-pub sound-low : (n : ℕ) (k : Kind) (lent : List ℕ) (m : ℕ) → logFormed n k (entriesFrom lent 0 m) ≡ true → allOf low (entriesFrom lent 0 m) ≡ true
-sound-low n k lent m t = low-all n k (entriesFrom lent 0 m) t
-
 pub ruleset readySteps = (
-  ready-low,
-  ready-room,
-  ready-most,
-  ready-long,
-  ready-short,
+  ready-change,
+  ready-keep,
   ready-wide,
   ready-whole,
 )

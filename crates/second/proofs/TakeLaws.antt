@@ -25,12 +25,12 @@ use Rattle.joined.specs.declared.Size.the-variants as size
 use Rattle.joined.specs.Fronts.{packetIn, toldSize, lengthIn, outputWith}
 use Rattle.series.specs.Taking.{Answer, kept, heldAlready, packet, refusedBy}
 use Rattle.series.specs.Deciding.{answerOf, Fitting}
-use Rattle.plain.specs.Entries.{Entry, entryAt, entriesFrom}
-use Rattle.plain.specs.Log.{first, hasKey, hasRank, isPart, touch, close, without, Result, result, handOut, freeFrom, displaces, inSeries, takePart}
-use Rattle.plain.specs.Engine.{altersNothing, taken}
-use Rattle.log.specs.Places.{foundAt, freeAt, allWith}
-use Rattle.second.specs.Copying.{partEntry}
-use Rattle.second.specs.Acting.{Sound, Ready, Stays, onlyReads, lacking, Opened, slotOrFirst, wholeOf}
+use Rattle.plain.specs.Entries.{Entry, logEntryAt, entriesFrom}
+use Rattle.plain.specs.Log.{firstEntry, hasKey, ofRank, isPart, touch, close, without, Result, result, logHandOut, freeFrom, displaces, inSeries, logTakePart}
+use Rattle.plain.specs.Engine.{altersNothing, logTaken}
+use Rattle.log.specs.Places.{foundAt, freeAt, allInLog}
+use Rattle.copies.specs.Copying.{partEntry, SoundLog, CanChange, CanKeep, ChangesTo}
+use Rattle.second.specs.Acting.{ReadyLog, Stays, onlyReads, lacking, Opened, slotOrFirst, wholeOf}
 use Rattle.log.specs.Laws.{found-some, found-none}
 use Rattle.second.proofs.ReadyLaws.{readySteps}
 
@@ -48,23 +48,23 @@ pub stays-held : (slot : ℕ) (old new : List ℕ) → Stays (altersNothing (hel
 stays-held slot old new = record { same = λ e. absurd (clash false e refl) }
 
 -- ---- a part that is held
-module _ (lent : List ℕ) (i slot : ℕ) (part p : List ℕ) (b : Bool) (q : p ≡ entryAt lent i .octets) (s : b ≡ sameOctets p part) where
-  told : b ≡ sameOctets (entryAt lent i .octets) part
+module _ (lent : List ℕ) (i slot : ℕ) (part p : List ℕ) (b : Bool) (q : p ≡ logEntryAt lent i .octets) (s : b ≡ sameOctets p part) where
+  told : b ≡ sameOctets (logEntryAt lent i .octets) part
   told = s ∙ ap (λ (x : List ℕ). sameOctets x part) q
 
-  pub again-answer : b ≡ true → heldAlready slot ≡ cond (sameOctets (entryAt lent i .octets) part) (heldAlready slot) (refusedBy 8)
+  pub again-answer : b ≡ true → heldAlready slot ≡ cond (sameOctets (logEntryAt lent i .octets) part) (heldAlready slot) (refusedBy 8)
   again-answer e = rw (← told, e)
 
-  pub again-refused : b ≡ false → refusedBy 8 ≡ cond (sameOctets (entryAt lent i .octets) part) (heldAlready slot) (refusedBy 8)
+  pub again-refused : b ≡ false → refusedBy 8 ≡ cond (sameOctets (logEntryAt lent i .octets) part) (heldAlready slot) (refusedBy 8)
   again-refused e = rw (← told, e)
 
   module _ (rank m : ℕ) where
-    pub again-touched : (new : List ℕ) → b ≡ true → entriesFrom new 0 m ≡ touch slot rank (entriesFrom lent 0 m)
-        → entriesFrom new 0 m ≡ cond (sameOctets (entryAt lent i .octets) part) (touch slot rank (entriesFrom lent 0 m)) (entriesFrom lent 0 m)
-    again-touched new e h = rw (← told, e) h
+    pub again-touched : (l : List Entry) → b ≡ true → CanChange lent m → ChangesTo (CanChange lent m) l (touch slot rank (entriesFrom lent 0 m))
+        → l ≡ cond (sameOctets (logEntryAt lent i .octets) part) (touch slot rank (entriesFrom lent 0 m)) (entriesFrom lent 0 m)
+    again-touched l e c h = rw (← told, e) (h .is c)
 
     pub again-left : b ≡ false
-        → entriesFrom lent 0 m ≡ cond (sameOctets (entryAt lent i .octets) part) (touch slot rank (entriesFrom lent 0 m)) (entriesFrom lent 0 m)
+        → entriesFrom lent 0 m ≡ cond (sameOctets (logEntryAt lent i .octets) part) (touch slot rank (entriesFrom lent 0 m)) (entriesFrom lent 0 m)
     again-left e = rw (← told, e)
 
 -- ---- a series that is complete
@@ -79,23 +79,27 @@ handed-drops a none e = rw e
 handed-drops a (some n) e = rw e
 
 pub handed-out : (a : Answer) (z : Option ℕ) (p : Option (List ℕ)) (l log : List Entry) (o output : List ℕ) → a ≡ answerOf z → z ≡ lengthIn p
-    → o ≡ outputWith p output → l ≡ log → result a l o ≡ handOut log output p
+    → o ≡ outputWith p output → l ≡ log → result a l o ≡ logHandOut log output p
 handed-out a z none l log o output e f g h = rw (e, f, g, h)
 handed-out a z (some x) l log o output e f g h = rw (e, f, g, h)
 
+pub series-handed : (lent : List ℕ) (m : ℕ) (a : Answer) (z : Option ℕ) (p : Option (List ℕ)) (l log : List Entry) (o output : List ℕ) → a ≡ answerOf z → z ≡ lengthIn p
+    → o ≡ outputWith p output → CanChange lent m → ChangesTo (CanChange lent m) l log → result a l o ≡ logHandOut log output p
+series-handed lent m a z p l log o output e f g c h = handed-out a z p l log o output e f g (h .is c)
+
 -- ---- a part of a series that is there
-module _ (n : ℕ) (k : Kind) (lent : List ℕ) (m : ℕ) (output : List ℕ) (key : Key) (total number : ℕ) (part : List ℕ) (i t : ℕ) (tot : t ≡ entryAt lent i .total) where
+module _ (n : ℕ) (k : Kind) (lent : List ℕ) (m : ℕ) (output : List ℕ) (key : Key) (total number : ℕ) (part : List ℕ) (i t : ℕ) (tot : t ≡ logEntryAt lent i .total) where
   pub more-total : (t ≡ total → ⊥)
-      → result (refusedBy 7) (entriesFrom lent 0 m) output ≡ inSeries n k (entriesFrom lent 0 m) output key total number part (entryAt lent i)
+      → result (refusedBy 7) (entriesFrom lent 0 m) output ≡ inSeries n k (entriesFrom lent 0 m) output key total number part (logEntryAt lent i)
   more-total ne = rw (← tot, ne-eqb t total ne)
 
-  module _ (same : t ≡ total) (slot rank : ℕ) (s : slot ≡ entryAt lent i .slot) (r : rank ≡ entryAt lent i .rank) (j : ℕ)
-      (found : foundAt lent m j ≡ first (isPart slot number) (entriesFrom lent 0 (m - 0))) where
-    pub more-again : (a : Answer) (l : List Entry) → j < m → a ≡ cond (sameOctets (entryAt lent j .octets) part) (heldAlready slot) (refusedBy 8)
-        → l ≡ cond (sameOctets (entryAt lent j .octets) part) (touch slot rank (entriesFrom lent 0 m)) (entriesFrom lent 0 m)
-        → result a l output ≡ inSeries n k (entriesFrom lent 0 m) output key total number part (entryAt lent i)
+  module _ (same : t ≡ total) (slot rank : ℕ) (s : slot ≡ logEntryAt lent i .slot) (r : rank ≡ logEntryAt lent i .rank) (j : ℕ)
+      (found : foundAt lent m j ≡ firstEntry (isPart slot number) (entriesFrom lent 0 (m - 0))) where
+    pub more-again : (a : Answer) (l : List Entry) → j < m → a ≡ cond (sameOctets (logEntryAt lent j .octets) part) (heldAlready slot) (refusedBy 8)
+        → l ≡ cond (sameOctets (logEntryAt lent j .octets) part) (touch slot rank (entriesFrom lent 0 m)) (entriesFrom lent 0 m)
+        → result a l output ≡ inSeries n k (entriesFrom lent 0 m) output key total number part (logEntryAt lent i)
     more-again a l h e f =
-        rw (← tot, eq-eqb t total same, ← s, ← r, found-some (isPart slot number) lent m j found h, e, f) (go (sameOctets (entryAt lent j .octets) part))
+        rw (← tot, eq-eqb t total same, ← s, ← r, found-some (isPart slot number) lent m j found h, e, f) (go (sameOctets (logEntryAt lent j .octets) part))
       where
         go : (b : Bool) → result (cond b (heldAlready slot) (refusedBy 8)) (cond b (touch slot rank (entriesFrom lent 0 m)) (entriesFrom lent 0 m)) output
             ≡ cond b (result (heldAlready slot) (touch slot rank (entriesFrom lent 0 m)) output) (result (refusedBy 8) (entriesFrom lent 0 m) output)
@@ -103,42 +107,44 @@ module _ (n : ℕ) (k : Kind) (lent : List ℕ) (m : ℕ) (output : List ℕ) (k
         go false = refl
 
     pub more-missing : (x : Result) → m ≤ j → x ≡ lacking k (entriesFrom lent 0 m) output slot rank key total number part
-        → x ≡ inSeries n k (entriesFrom lent 0 m) output key total number part (entryAt lent i)
+        → x ≡ inSeries n k (entriesFrom lent 0 m) output key total number part (logEntryAt lent i)
     more-missing x h f = rw (← tot, eq-eqb t total same, ← s, ← r, found-none (isPart slot number) lent m j found h) f
 
 -- a part that it lacks
 module _ (k : Kind) (lent : List ℕ) (m : ℕ) (output : List ℕ) (slot rank : ℕ) (key : Key) (total number : ℕ) (part : List ℕ) (b : Bool)
-    (c : b ≡ allWith slot number (entriesFrom lent 0 m) total) where
+    (c : b ≡ allInLog slot number (entriesFrom lent 0 m) total) where
   pub missing-last : (x : Result) → b ≡ true
-      → x ≡ handOut (close rank (without slot (entriesFrom lent 0 m))) output (packetIn k (ofPages key) total (wholeOf (entriesFrom lent 0 m) slot total number part))
+      → x ≡ logHandOut (close rank (without slot (entriesFrom lent 0 m))) output (packetIn k (ofPages key) total (wholeOf (entriesFrom lent 0 m) slot total number part))
       → x ≡ lacking k (entriesFrom lent 0 m) output slot rank key total number part
   missing-last x e f = rw (← c, e) f
 
-  pub missing-kept : (l : List Entry) → b ≡ false → l ≡ touch slot rank (entriesFrom lent 0 m) ++ partEntry slot key total number part ∷ []
+  pub missing-kept : (l : List Entry) → b ≡ false → CanKeep lent m part
+      → ChangesTo (CanKeep lent m part) l (touch slot rank (entriesFrom lent 0 m) ++ partEntry slot key total number part ∷ [])
       → result (kept slot false) l output ≡ lacking k (entriesFrom lent 0 m) output slot rank key total number part
-  missing-kept l e f = rw (← c, e, f)
+  missing-kept l e can f = rw (← c, e, f .is can)
 
 -- ---- a new series
-pub slot-found : (lent : List ℕ) (m i s : ℕ) → i < m → s ≡ entryAt lent i .slot → s ≡ slotOrFirst (foundAt lent m i)
+pub slot-found : (lent : List ℕ) (m i s : ℕ) → i < m → s ≡ logEntryAt lent i .slot → s ≡ slotOrFirst (foundAt lent m i)
 slot-found lent m i s l e = rw (lt-ltb i m l) e
 
 pub slot-none : (lent : List ℕ) (m i : ℕ) → m ≤ i → 0 ≡ slotOrFirst (foundAt lent m i)
 slot-none lent m i l = rw (le-ltb i m l)
 
-module _ (n : ℕ) (lent : List ℕ) (m : ℕ) (key : Key) (total number : ℕ) (part : List ℕ) (f : ℕ) (free : freeAt n f ≡ freeFrom (entriesFrom lent 0 m) 0 n) (l : List Entry) where
-  pub new-free : f < n → l ≡ touch f 0 (without f (entriesFrom lent 0 m)) ++ partEntry f key total number part ∷ []
+module _ (n : ℕ) (lent : List ℕ) (m : ℕ) (key : Key) (total number : ℕ) (part : List ℕ) (f : ℕ) (free : freeAt n f ≡ freeFrom (entriesFrom lent 0 m) 0 n) (l : List Entry)
+    (can : CanKeep lent m part) where
+  pub new-free : f < n → ChangesTo (CanKeep lent m part) l (touch f 0 (without f (entriesFrom lent 0 m)) ++ partEntry f key total number part ∷ [])
       → Opened n (entriesFrom lent 0 m) key total number part (kept f false) l
-  new-free h e = record { is = λ k output. rw (← free, lt-ltb f n h, e) }
+  new-free h e = record { is = λ k output. rw (← free, lt-ltb f n h, e .is can) }
 
-  pub new-displaces : (j slot : ℕ) → n ≤ f → foundAt lent m j ≡ first (hasRank n) (entriesFrom lent 0 (m - 0)) → slot ≡ slotOrFirst (foundAt lent m j)
-      → l ≡ touch slot n (without slot (entriesFrom lent 0 m)) ++ partEntry slot key total number part ∷ []
+  pub new-displaces : (j slot : ℕ) → n ≤ f → foundAt lent m j ≡ firstEntry (ofRank n) (entriesFrom lent 0 (m - 0)) → slot ≡ slotOrFirst (foundAt lent m j)
+      → ChangesTo (CanKeep lent m part) l (touch slot n (without slot (entriesFrom lent 0 m)) ++ partEntry slot key total number part ∷ [])
       → Opened n (entriesFrom lent 0 m) key total number part (kept slot true) l
-  new-displaces j slot h found s e = record { is = λ k output. rw (← free, le-ltb f n h, e) (go k output (first (hasRank n) (entriesFrom lent 0 m)) is) }
+  new-displaces j slot h found s e = record { is = λ k output. rw (← free, le-ltb f n h, e .is can) (go k output (firstEntry (ofRank n) (entriesFrom lent 0 m)) is) }
     where
-      is : slot ≡ slotOrFirst (first (hasRank n) (entriesFrom lent 0 m))
+      is : slot ≡ slotOrFirst (firstEntry (ofRank n) (entriesFrom lent 0 m))
       is =
           let z : m - 0 ≡ m = omega arith in
-          let q : first (hasRank n) (entriesFrom lent 0 (m - 0)) ≡ first (hasRank n) (entriesFrom lent 0 m) = rw z in
+          let q : firstEntry (ofRank n) (entriesFrom lent 0 (m - 0)) ≡ firstEntry (ofRank n) (entriesFrom lent 0 m) = rw z in
           s ∙ ap slotOrFirst (found ∙ q)
 
       go : (k : Kind) (output : List ℕ) (o : Option Entry) → slot ≡ slotOrFirst o
@@ -149,39 +155,39 @@ module _ (n : ℕ) (lent : List ℕ) (m : ℕ) (key : Key) (total number : ℕ) 
 
 -- ---- a part
 module _ (n : ℕ) (k : Kind) (lent : List ℕ) (m : ℕ) (output : List ℕ) (key : Key) (total number : ℕ) (part : List ℕ) (i : ℕ)
-    (found : foundAt lent m i ≡ first (hasKey key) (entriesFrom lent 0 (m - 0))) (a : Answer) (l : List Entry) where
-  pub part-more : (o : List ℕ) → i < m → result a l o ≡ inSeries n k (entriesFrom lent 0 m) output key total number part (entryAt lent i)
-      → result a l o ≡ takePart n k (entriesFrom lent 0 m) output key total number part
-  unfolding takePart
+    (found : foundAt lent m i ≡ firstEntry (hasKey key) (entriesFrom lent 0 (m - 0))) (a : Answer) (l : List Entry) where
+  pub part-more : (o : List ℕ) → i < m → result a l o ≡ inSeries n k (entriesFrom lent 0 m) output key total number part (logEntryAt lent i)
+      → result a l o ≡ logTakePart n k (entriesFrom lent 0 m) output key total number part
+  unfolding logTakePart
   part-more o h e = rw (found-some (hasKey key) lent m i found h) e
 
   pub part-new : m ≤ i → Opened n (entriesFrom lent 0 m) key total number part a l
-      → result a l output ≡ takePart n k (entriesFrom lent 0 m) output key total number part
-  unfolding takePart
+      → result a l output ≡ logTakePart n k (entriesFrom lent 0 m) output key total number part
+  unfolding logTakePart
   part-new h e = rw (found-none (hasKey key) lent m i found h) (e .is k output)
 
 -- ---- an arrival
 module _ (n : ℕ) (k : Kind) (lent : List ℕ) (m : ℕ) (output : List ℕ) (paged : Bool) (o : List ℕ) (z : Arrival) where
   pub brought-refused : (q : Refusal) → z ≡ arrival.Refused q
-      → result (refusedBy (refusalNumber q)) (entriesFrom lent 0 m) output ≡ taken n k (entriesFrom lent 0 m) output paged o (toldArrival z)
+      → result (refusedBy (refusalNumber q)) (entriesFrom lent 0 m) output ≡ logTaken n k (entriesFrom lent 0 m) output paged o (toldArrival z)
   brought-refused q e = rw e
 
   pub brought-single : (a : Answer) (s : Option ℕ) (start : ℕ) (own out : List ℕ) → z ≡ arrival.Single start → own ≡ drop start o → a ≡ answerOf s
       → s ≡ lengthIn (packetIn k paged 1 own) → out ≡ outputWith (packetIn k paged 1 own) output
-      → result a (entriesFrom lent 0 m) out ≡ taken n k (entriesFrom lent 0 m) output paged o (toldArrival z)
+      → result a (entriesFrom lent 0 m) out ≡ logTaken n k (entriesFrom lent 0 m) output paged o (toldArrival z)
   brought-single a s start own out e is f g h =
       rw (e, ← is) (handed-out a s (packetIn k paged 1 own) (entriesFrom lent 0 m) (entriesFrom lent 0 m) out output f g h refl)
 
   pub brought-part : (x : Result) (key : Key) (total number start : ℕ) (own : List ℕ) → z ≡ arrival.Part key total number start → own ≡ drop start o
-      → x ≡ takePart n k (entriesFrom lent 0 m) output key total number own → x ≡ taken n k (entriesFrom lent 0 m) output paged o (toldArrival z)
+      → x ≡ logTakePart n k (entriesFrom lent 0 m) output key total number own → x ≡ logTaken n k (entriesFrom lent 0 m) output paged o (toldArrival z)
   brought-part x key total number start own e is h = rw (e, ← is) h
 
   module _ (fits : Fitting k o z) (wide : length output ≡ mostOctets) where
     pub single-fits : (start : ℕ) (own : List ℕ) → z ≡ arrival.Single start → own ≡ drop start o → length own ≤ length output
     single-fits start own e is = let h : length (drop start o) ≤ mostOctets = rw e at fits in omega (arith, ap length is)
 
-    pub part-ready : (key : Key) (total number start : ℕ) (own : List ℕ) → z ≡ arrival.Part key total number start → own ≡ drop start o → Sound n k lent m
-        → Ready n k lent m key total number own output
+    pub part-ready : (key : Key) (total number start : ℕ) (own : List ℕ) → z ≡ arrival.Part key total number start → own ≡ drop start o → SoundLog n k lent m
+        → ReadyLog n k lent m key total number own output
     part-ready key total number start own e is s =
         record { sound = s; admitted = let h : Admitted k key total number (drop start o) = rw e at fits in rw is h; wide = wide }
 
@@ -206,7 +212,7 @@ pub ruleset finishSteps = (
   handed-some,
   handed-none,
   handed-drops,
-  handed-out,
+  series-handed,
 )
 
 pub ruleset moreSteps = (

@@ -12,11 +12,11 @@ ghost use Rattle.octets.specs.Octets.{placed};
 ghost use Rattle.packet.specs.Packets.{mostOctets};
 ghost use Rattle.joined.specs.Fronts.{packetIn, toldSize, lengthIn, outputWith};
 ghost use Rattle.plain.specs.Entries.{entriesFrom};
-ghost use Rattle.second.specs.Acting.{pieceOf, wholeOf};
+ghost use Rattle.second.specs.Acting.{logPiece, wholeOf};
 
 // Part k of a slot, where it is: the part that arrives if k is its number, else the one in the log.
 fn piece<'a>(entries: &'a [u8], count: u8, slot: u8, number: u8, part: &'a [u8], k: u8) -> &'a [u8]
-    ensures { λ r. ⌜ now r ≡ pieceOf (entriesFrom (now (entries .entry)) 0 count) slot number (now (part .entry)) k ⌝ }
+    ensures { λ r. ⌜ now r ≡ logPiece (entriesFrom (now (entries .entry)) 0 count) slot number (now (part .entry)) k ⌝ }
 {
     if k == number {
         return part;

@@ -1,11 +1,10 @@
 // Taking a part (02 [9]): 7, 8, 9 as in the first engine. What is due is told by walks, and then the log is copied.
-use crate::copies::Change;
-use crate::copies::alter_all;
-use crate::copies::drop_series;
-use crate::copies::keep_part;
-use crate::copies::open_series;
 use crate::packets::hand_out;
 use crate::packets::hand_out_series;
+use copies::drop_series;
+use copies::keep_part;
+use copies::open_series;
+use copies::touch_series;
 use joined::Size;
 use log::entries::part_at;
 use log::entries::rank_at;
@@ -21,8 +20,7 @@ use types::Key;
 use types::Kind;
 use types::Refusal;
 ghost use mathlib.Core.Path.{_≡_};
-ghost use mathlib.Core.Bool.{true, false, cond};
-ghost use Prim.Native.Nat.{_≤_, _<_};
+ghost use mathlib.Core.Bool.{false, cond};
 ghost use lib.ListN.{length};
 ghost use Rattle.octets.specs.Octets.{sameOctets};
 ghost use Rattle.packet.specs.Packets.{mostOctets};
@@ -31,12 +29,12 @@ ghost use Rattle.arrival.specs.Keys.{ofPages};
 ghost use Rattle.joined.specs.Fronts.{packetIn, toldSize};
 ghost use Rattle.series.specs.Taking.{heldAlready, refusedBy, toldAnswer};
 ghost use Rattle.series.specs.Deciding.{answerOf, Fitting};
-ghost use Rattle.plain.specs.Entries.{mostEntries, logOctets, entryAt, entriesFrom};
-ghost use Rattle.plain.specs.Log.{touch, close, without, result, handOut, inSeries, takePart};
-ghost use Rattle.plain.specs.Engine.{allOf, altersNothing, taken};
+ghost use Rattle.plain.specs.Entries.{logEntryAt, entriesFrom};
+ghost use Rattle.plain.specs.Log.{touch, close, without, result, logHandOut, inSeries, logTakePart};
+ghost use Rattle.plain.specs.Engine.{altersNothing, logTaken};
 ghost use Rattle.log.specs.Places.{foundAt};
-ghost use Rattle.second.specs.Copying.{low};
-ghost use Rattle.second.specs.Acting.{Sound, Ready, Stays, onlyReads, wholeOf, lacking, slotOrFirst, Opened};
+ghost use Rattle.copies.specs.Copying.{SoundLog, CanChange, CanKeep};
+ghost use Rattle.second.specs.Acting.{ReadyLog, Stays, onlyReads, wholeOf, lacking, slotOrFirst, Opened};
 
 // What taking a part comes to: the answer, and how many entries there are afterwards.
 pub(crate) struct Done {
@@ -47,27 +45,19 @@ pub(crate) struct Done {
 // ---- a series that is there
 // The part is held, in entry i: with the same octets its series becomes the most recent, with others the part is refused.
 fn take_again(entries: &mut [u8], count: u8, slot: u8, rank: u8, i: u8, part: &[u8]) -> Done
-    requires { ⌜ (count ≤ mostEntries) × (length (now entries) ≡ logOctets) ⌝ }
-    requires { ⌜ allOf low (entriesFrom (now entries) 0 count) ≡ true ⌝ }
-    ensures { λ r. ⌜ toldAnswer (r .answer) ≡ cond (sameOctets (entryAt (now (entries .entry)) i .octets) (now (part .entry))) (heldAlready slot) (refusedBy 8) ⌝ }
-    ensures { λ r. ⌜ entriesFrom (now (entries .exit)) 0 (r .count) ≡ cond (sameOctets (entryAt (now (entries .entry)) i .octets) (now (part .entry))) (touch slot rank (entriesFrom (now (entries .entry)) 0 count)) (entriesFrom (now (entries .entry)) 0 count) ⌝ }
+    requires { ⌜ CanChange (now entries) count ⌝ }
+    ensures { λ r. ⌜ toldAnswer (r .answer) ≡ cond (sameOctets (logEntryAt (now (entries .entry)) i .octets) (now (part .entry))) (heldAlready slot) (refusedBy 8) ⌝ }
+    ensures { λ r. ⌜ entriesFrom (now (entries .exit)) 0 (r .count) ≡ cond (sameOctets (logEntryAt (now (entries .entry)) i .octets) (now (part .entry))) (touch slot rank (entriesFrom (now (entries .entry)) 0 count)) (entriesFrom (now (entries .entry)) 0 count) ⌝ }
     ensures { λ r. ⌜ Stays (altersNothing (toldAnswer (r .answer))) (now (entries .entry)) (now (entries .exit)) ⌝ }
 {
     let same = octets::same(part_at(entries, i), part);
     if same {
-        alter_all(
-            entries,
-            count,
-            Change::Touch {
-                slot: slot,
-                rank: rank,
-            },
-        );
+        let more = touch_series(entries, count, slot, rank);
         return Done {
             answer: Answer::HeldAlready {
                 slot: slot as usize,
             },
-            count: count,
+            count: more,
         };
     }
     Done {
@@ -100,8 +90,8 @@ fn finish(
     part: &[u8],
     output: &mut [u8],
 ) -> Done
-    requires { ⌜ Ready n kind (now entries) count key total number (now part) (now output) ⌝ }
-    ensures { λ r. ⌜ result (toldAnswer (r .answer)) (entriesFrom (now (entries .exit)) 0 (r .count)) (now (output .exit)) ≡ handOut (close rank (without slot (entriesFrom (now (entries .entry)) 0 count))) (now (output .entry)) (packetIn kind (ofPages key) total (wholeOf (entriesFrom (now (entries .entry)) 0 count) slot total number (now (part .entry)))) ⌝ }
+    requires { ⌜ ReadyLog n kind (now entries) count key total number (now part) (now output) ⌝ }
+    ensures { λ r. ⌜ result (toldAnswer (r .answer)) (entriesFrom (now (entries .exit)) 0 (r .count)) (now (output .exit)) ≡ logHandOut (close rank (without slot (entriesFrom (now (entries .entry)) 0 count))) (now (output .entry)) (packetIn kind (ofPages key) total (wholeOf (entriesFrom (now (entries .entry)) 0 count) slot total number (now (part .entry)))) ⌝ }
     ensures { λ r. ⌜ altersNothing (toldAnswer (r .answer)) ≡ false ⌝ }
 {
     let paged = key.width == 0;
@@ -137,7 +127,7 @@ fn take_missing(
     part: &[u8],
     output: &mut [u8],
 ) -> Done
-    requires { ⌜ Ready n kind (now entries) count key total number (now part) (now output) ⌝ }
+    requires { ⌜ ReadyLog n kind (now entries) count key total number (now part) (now output) ⌝ }
     ensures { λ r. ⌜ result (toldAnswer (r .answer)) (entriesFrom (now (entries .exit)) 0 (r .count)) (now (output .exit)) ≡ lacking kind (entriesFrom (now (entries .entry)) 0 count) (now (output .entry)) slot rank key total number (now (part .entry)) ⌝ }
     ensures { λ r. ⌜ altersNothing (toldAnswer (r .answer)) ≡ false ⌝ }
 {
@@ -180,8 +170,8 @@ fn take_more(
     part: &[u8],
     output: &mut [u8],
 ) -> Done
-    requires { ⌜ Ready n kind (now entries) count key total number (now part) (now output) ⌝ }
-    ensures { λ r. ⌜ result (toldAnswer (r .answer)) (entriesFrom (now (entries .exit)) 0 (r .count)) (now (output .exit)) ≡ inSeries n kind (entriesFrom (now (entries .entry)) 0 count) (now (output .entry)) key total number (now (part .entry)) (entryAt (now (entries .entry)) i) ⌝ }
+    requires { ⌜ ReadyLog n kind (now entries) count key total number (now part) (now output) ⌝ }
+    ensures { λ r. ⌜ result (toldAnswer (r .answer)) (entriesFrom (now (entries .exit)) 0 (r .count)) (now (output .exit)) ≡ inSeries n kind (entriesFrom (now (entries .entry)) 0 count) (now (output .entry)) key total number (now (part .entry)) (logEntryAt (now (entries .entry)) i) ⌝ }
     ensures { λ r. ⌜ Stays (altersNothing (toldAnswer (r .answer))) (now (entries .entry)) (now (entries .exit)) ⌝ }
 {
     let slot = slot_at(entries, i);
@@ -241,8 +231,7 @@ fn take_new(
     number: u8,
     part: &[u8],
 ) -> Done
-    requires { ⌜ (count < mostEntries) × (length (now entries) ≡ logOctets) × (length (now part) ≤ 134) ⌝ }
-    requires { ⌜ allOf low (entriesFrom (now entries) 0 count) ≡ true ⌝ }
+    requires { ⌜ CanKeep (now entries) count (now part) ⌝ }
     ensures { λ r. ⌜ Opened n (entriesFrom (now (entries .entry)) 0 count) key total number (now (part .entry)) (toldAnswer (r .answer)) (entriesFrom (now (entries .exit)) 0 (r .count)) ⌝ }
     ensures { λ r. ⌜ altersNothing (toldAnswer (r .answer)) ≡ false ⌝ }
 {
@@ -281,8 +270,8 @@ pub(crate) fn take_part(
     part: &[u8],
     output: &mut [u8],
 ) -> Done
-    requires { ⌜ Ready n kind (now entries) count key total number (now part) (now output) ⌝ }
-    ensures { λ r. ⌜ result (toldAnswer (r .answer)) (entriesFrom (now (entries .exit)) 0 (r .count)) (now (output .exit)) ≡ takePart n kind (entriesFrom (now (entries .entry)) 0 count) (now (output .entry)) key total number (now (part .entry)) ⌝ }
+    requires { ⌜ ReadyLog n kind (now entries) count key total number (now part) (now output) ⌝ }
+    ensures { λ r. ⌜ result (toldAnswer (r .answer)) (entriesFrom (now (entries .exit)) 0 (r .count)) (now (output .exit)) ≡ logTakePart n kind (entriesFrom (now (entries .entry)) 0 count) (now (output .entry)) key total number (now (part .entry)) ⌝ }
     ensures { λ r. ⌜ Stays (altersNothing (toldAnswer (r .answer))) (now (entries .entry)) (now (entries .exit)) ⌝ }
 {
     let i = find(entries, 0, count, Sought::OfKey(key));
@@ -304,10 +293,10 @@ pub(crate) fn take_brought(
     arrival: Arrival,
     output: &mut [u8],
 ) -> Done
-    requires { ⌜ Sound n kind (now entries) count ⌝ }
+    requires { ⌜ SoundLog n kind (now entries) count ⌝ }
     requires { ⌜ length (now output) ≡ mostOctets ⌝ }
     requires { ⌜ Fitting kind (now octets) arrival ⌝ }
-    ensures { λ r. ⌜ result (toldAnswer (r .answer)) (entriesFrom (now (entries .exit)) 0 (r .count)) (now (output .exit)) ≡ taken n kind (entriesFrom (now (entries .entry)) 0 count) (now (output .entry)) paged (now (octets .entry)) (toldArrival arrival) ⌝ }
+    ensures { λ r. ⌜ result (toldAnswer (r .answer)) (entriesFrom (now (entries .exit)) 0 (r .count)) (now (output .exit)) ≡ logTaken n kind (entriesFrom (now (entries .entry)) 0 count) (now (output .entry)) paged (now (octets .entry)) (toldArrival arrival) ⌝ }
     ensures { λ r. ⌜ Stays (onlyReads (toldArrival arrival) (toldAnswer (r .answer))) (now (entries .entry)) (now (entries .exit)) ⌝ }
 {
     match arrival {

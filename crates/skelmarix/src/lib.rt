@@ -110,10 +110,10 @@ pub use sound::beat::beat as state_beat;
 pub use sound::state_formed;
 
 // The same on a log of accepted parts, which anybody can follow: for a bench (02 [9]).
+pub use copies::beat_log as log_beat;
+pub use copies::fresh_log;
 pub use log::sound::state_formed as log_formed;
 pub use readoff::log_record;
-pub use second::beat_log as log_beat;
-pub use second::fresh_log;
 pub use second::take_message as log_take_message;
 pub use second::take_page as log_take_page;
 pub use types::Log;

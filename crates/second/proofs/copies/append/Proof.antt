@@ -1,9 +1,0 @@
--- `append` meets its contract. Each need follows by a law of `CopyLaws`. Assumes nothing.
-use Rattle.second.proofs.CopyLaws.{copySteps}
-use Rattle.second.proofs.copies.append.Statement.{statement}
-use Rattle.second.proofs.copies.append.Tie as tie
-
-pub append-spec : {M : Type 1} → statement M
-append-spec =
-    tie.close
-    (tie.spec (λ c κs. search copySteps) (λ c. search copySteps) (λ c. search copySteps) (λ c κs. search copySteps) (λ c. search copySteps) (λ c κs. search copySteps) (λ c. search copySteps) (λ c. search copySteps))

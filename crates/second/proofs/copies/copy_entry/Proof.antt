@@ -1,9 +1,0 @@
--- `copy_entry` meets its contract. Each need follows by a law of `CopyLaws`. Assumes nothing.
-use Rattle.second.proofs.CopyLaws.{copySteps}
-use Rattle.second.proofs.copies.copy_entry.Statement.{statement}
-use Rattle.second.proofs.copies.copy_entry.Tie as tie
-
-pub copy-entry-spec : {M : Type 1} → statement M
-copy-entry-spec =
-    tie.close
-    (tie.spec (λ c κs. search copySteps) (λ c. search copySteps) (λ c κs. search copySteps) (λ c. search copySteps) (λ c. search copySteps) (λ c κs. search copySteps) (λ c. search copySteps) (λ c. search copySteps))

@@ -1,9 +1,0 @@
--- `drop_series` meets its contract. Each need follows by a law of `CopyLaws`. Assumes nothing.
-use Rattle.second.proofs.CopyLaws.{series-dropped, seriesSteps}
-use Rattle.second.proofs.copies.drop_series.Statement.{statement}
-use Rattle.second.proofs.copies.drop_series.Tie as tie
-
-pub drop-series-spec : {M : Type 1} → statement M
-drop-series-spec =
-    tie.close
-    (tie.spec (λ c κs. search seriesSteps) (λ c κs. search seriesSteps) (λ c. search seriesSteps) (λ c. series-dropped (c .before .before .before .before .before .before .before .before .before .args .slot) (c .before .before .before .before .before .before .before .before .before .args .rank) _ _ _ _ (c .before .before .before .before .before .before .leave-out .ensures .0) _ (c .before .before .alter-all .ensures)))

@@ -1,9 +1,0 @@
--- `head` meets its contract. Each need follows by a law of `CopyLaws`. Assumes nothing.
-use Rattle.second.proofs.CopyLaws.{copySteps}
-use Rattle.second.proofs.copies.head.Statement.{statement}
-use Rattle.second.proofs.copies.head.Tie as tie
-
-pub head-spec : {M : Type 1} → statement M
-head-spec =
-    tie.close
-    (tie.spec (λ c κs. search copySteps) (λ c κs. search copySteps) (λ c κs. search copySteps) (λ c κs. search copySteps) (λ c κs. search copySteps) (λ c κs. search copySteps) (λ c κs. search copySteps) (λ c. search copySteps) (λ c. search copySteps))

@@ -1,9 +1,0 @@
--- `keep_entry` meets its contract. Each need follows by a law of `CopyLaws`. Assumes nothing.
-use Rattle.second.proofs.CopyLaws.{copySteps}
-use Rattle.second.proofs.copies.keep_entry.Statement.{statement}
-use Rattle.second.proofs.copies.keep_entry.Tie as tie
-
-pub keep-entry-spec : {M : Type 1} → statement M
-keep-entry-spec =
-    tie.close
-    (tie.spec (λ c κs. search copySteps) (λ c. search copySteps) (λ c. search copySteps) (λ c κs. search copySteps) (λ c. search copySteps) (λ c. search copySteps) (λ c. search copySteps))
