@@ -3,7 +3,7 @@
 use Prim.Native.Nat.{ℕ, _≤_}
 use mathlib.Core.Path.{_≡_}
 use mathlib.Core.Bool.{Bool, true, false}
-use mathlib.Core.List.{List, [], _∷_, _++_}
+use mathlib.Core.List.{List, [], _∷_, _++_, map}
 use lib.ListN.{length, drop}
 use Rattle.octets.specs.Octets.{Octets}
 use Rattle.types.specs.declared.Kind.{Kind}
@@ -27,24 +27,24 @@ use Rattle.sequences.specs.Lists.{elem, add, complete}
 use Rattle.sequences.specs.Runs.{Slots, Call, Event, takes, beats, Store, fresh, outcome, leftBy, run, Proper, Each}
 use Rattle.sequences.specs.Reachable.{KeyFits, Possible, Exactly}
 use Rattle.sequences.specs.Wake.{History, begin, follow, Start}
-use Rattle.shuffles.specs.Others.{withoutOthers, OfSeries}
-use Rattle.shuffles.specs.Shuffled.{BringsPart}
+use Rattle.shuffles.specs.Others.{withoutOthers, callsWith, OfSeries}
+use Rattle.shuffles.specs.Shuffled.{BringsPart, BringInOrder, noneComplete, allAnswered, AllName}
 
 -- ---- the same events through both engines
--- what a caller is told: by a call the answer and every octet of the output, by a beat its answer
+-- what a caller hears: of a call the answer and every octet of the output, of a beat its answer
 pub data Heard : Type 0 where
   heard : Answer → (output : List ℕ) → Heard
-  toldOfBeat : reading.Outcome ℕ → Heard
+  heardOfBeat : reading.Outcome ℕ → Heard
 
-abbrev pub toldBy : ℕ → Store → Event → Heard
-toldBy n st (takes c) = heard (outcome n st c .answer) (outcome n st c .state .output)
-toldBy n st (beats limit) = toldOfBeat (first.beat n (st .rec) limit .answer)
+abbrev pub heardBy : ℕ → Store → Event → Heard
+heardBy n st (takes c) = heard (outcome n st c .answer) (outcome n st c .state .output)
+heardBy n st (beats limit) = heardOfBeat (first.beat n (st .rec) limit .answer)
 
-abbrev pub toldOver : ℕ → Store → List Event → List Heard
-toldOver n st [] = []
-toldOver n st (e ∷ es) = toldBy n st e ∷ toldOver n (leftBy n st e) es
+abbrev pub heardOver : ℕ → Store → List Event → List Heard
+heardOver n st [] = []
+heardOver n st (e ∷ es) = heardBy n st e ∷ heardOver n (leftBy n st e) es
 
--- the plain engine's: what a call comes to, what an event leaves, and what the caller is told
+-- the plain engine's: what a call comes to, what an event leaves, and what the caller hears
 abbrev pub plainOutcome : LogState → Call → AfterLog
 plainOutcome s c = logTakeInput s (c .output) (c .input)
 
@@ -56,13 +56,13 @@ abbrev pub plainRun : LogState → List Event → LogState
 plainRun s [] = s
 plainRun s (e ∷ es) = plainRun (plainBy s e) es
 
-abbrev pub plainToldBy : LogState → Event → Heard
-plainToldBy s (takes c) = heard (plainOutcome s c .answer) (plainOutcome s c .output)
-plainToldBy s (beats limit) = toldOfBeat (logBeat s limit .answer)
+abbrev pub plainHeardBy : LogState → Event → Heard
+plainHeardBy s (takes c) = heard (plainOutcome s c .answer) (plainOutcome s c .output)
+plainHeardBy s (beats limit) = heardOfBeat (logBeat s limit .answer)
 
-abbrev pub plainToldOver : LogState → List Event → List Heard
-plainToldOver s [] = []
-plainToldOver s (e ∷ es) = plainToldBy s e ∷ plainToldOver (plainBy s e) es
+abbrev pub plainHeardOver : LogState → List Event → List Heard
+plainHeardOver s [] = []
+plainHeardOver s (e ∷ es) = plainHeardBy s e ∷ plainHeardOver (plainBy s e) es
 
 module _ (n : ℕ) (k : Kind) where
   -- a fresh log, in octets that hold anything, and what events lead to from it
@@ -79,7 +79,7 @@ module _ (n : ℕ) (k : Kind) where
 
   -- THE ENGINES ARE EQUAL
   abbrev pub EnginesEqual : Type 0
-  EnginesEqual = (cells lent : List ℕ) → LentBoth cells lent → (events : List Event) → Each Proper events → plainToldOver (plainFresh lent) events ≡ toldOver n (fresh n k cells) events
+  EnginesEqual = (cells lent : List ℕ) → LentBoth cells lent → (events : List Event) → Each Proper events → plainHeardOver (plainFresh lent) events ≡ heardOver n (fresh n k cells) events
 
   -- Behind any events the log is one that the test accepts, of 75 entries at most, and the record that is read off it is the first engine's.
   pub record InStep (s : LogState) (r : Record) : Type 0 where
@@ -110,7 +110,15 @@ module _ (n : ℕ) (k : Kind) where
     abbrev pub PlainOthersUnseen : (Timely : List ℕ → Type 0) → Type 0
     PlainOthersUnseen Timely = (cells lent : List ℕ) → LentBoth cells lent → (earlier : List Event) (opening : Call) (calls : List Event)
         → Start n k K P parts Timely cells earlier (takes opening ∷ calls) → (u : List Event) (c : Call) (v : List Event) → OfSeries n k K P parts cells earlier opening calls u c v
-        → plainToldBy (plainAfter lent (earlier ++ u)) (takes c) ≡ plainToldBy (plainAfter lent (earlier ++ withoutOthers k K u)) (takes c)
+        → plainHeardBy (plainAfter lent (earlier ++ u)) (takes c) ≡ plainHeardBy (plainAfter lent (earlier ++ withoutOthers k K u)) (takes c)
+
+    -- isolation: two runs, both within the window, with the same calls with the key in the same order; all else may differ
+    abbrev pub PlainIsolated : (Timely : List ℕ → Type 0) → Type 0
+    PlainIsolated Timely = (cells lent : List ℕ) → LentBoth cells lent → (earlier : List Event) (opening : Call) (calls calls′ : List Event)
+        → Start n k K P parts Timely cells earlier (takes opening ∷ calls) → Start n k K P parts Timely cells earlier (takes opening ∷ calls′)
+        → (c : Call) (u v u′ v′ : List Event) → OfSeries n k K P parts cells earlier opening calls u c v → OfSeries n k K P parts cells earlier opening calls′ u′ c v′
+        → callsWith k K u ≡ callsWith k K u′
+        → plainHeardBy (plainAfter lent (earlier ++ u)) (takes c) ≡ plainHeardBy (plainAfter lent (earlier ++ u′)) (takes c)
 
   -- ---- order and repetition, behind any events
   -- A part answered "kept", brought again at once, is "held already" in the same slot, and the same record is read off.
@@ -120,7 +128,7 @@ module _ (n : ℕ) (k : Kind) where
   abbrev pub PlainKeptThenHeld : Type 0
   PlainKeptThenHeld = (lent : List ℕ) → length lent ≡ logOctets → (events : List Event) → Each Proper events → (K : Key) (total number : ℕ) (own : List ℕ) (c d : Call)
       → BringsPart k K total number own c → BringsPart k K total number own d → (slot : ℕ) (mark : Bool) → plainOutcome (plainAfter lent events) c .answer ≡ kept slot mark
-      → (plainToldBy (plainOutcome (plainAfter lent events) c .state) (takes d) ≡ heard (heldAlready slot) (d .output))
+      → (plainHeardBy (plainOutcome (plainAfter lent events) c .state) (takes d) ≡ heard (heldAlready slot) (d .output))
       × (readOf (plainOutcome (plainOutcome (plainAfter lent events) c .state) d .state) ≡ readOf (plainOutcome (plainAfter lent events) c .state))
 
   -- Two parts of one key with different numbers, both "kept" in a row, are both "kept" in the other order, in the same slot, and the same record is read off.
@@ -138,6 +146,25 @@ module _ (n : ℕ) (k : Kind) where
       → (slot : ℕ) (mark : Bool) → plainOutcome (plainAfter lent events) c .answer ≡ kept slot mark
       → (slot′ : ℕ) (mark′ : Bool) → plainOutcome (plainOutcome (plainAfter lent events) c .state) d .answer ≡ kept slot′ mark′
       → PlainExchanged (plainAfter lent events) c d slot mark slot′ mark′
+
+  -- Any two orders of the same parts of one key, repeats allowed, of which one completes no series: neither does the other, the same record is read off,
+  -- each answer is told from the one that its part would get first of all, and all name one slot.
+  abbrev pub plainAnswersOf : LogState → List Call → List Answer
+  plainAnswersOf s [] = []
+  plainAnswersOf s (c ∷ cs) = plainOutcome s c .answer ∷ plainAnswersOf (plainOutcome s c .state) cs
+
+  pub record PlainShuffled (s : LogState) (cs ds : List Call) (l : List ℕ) : Type 0 where
+    pub none-complete : noneComplete (plainAnswersOf s ds) ≡ true
+    pub equal : readOf (plainRun s (map takes ds)) ≡ readOf (plainRun s (map takes cs))
+    pub answered : plainAnswersOf s ds ≡ allAnswered (λ c. plainOutcome s c .answer) [] ds l
+    pub slot : ℕ
+    pub one-slot : AllName slot (plainAnswersOf s cs)
+    pub same-slot : AllName slot (plainAnswersOf s ds)
+
+  abbrev pub PlainAnyOrder : Type 0
+  PlainAnyOrder = (lent : List ℕ) → length lent ≡ logOctets → (events : List Event) → Each Proper events → (K : Key) (total : ℕ) (own : ℕ → List ℕ) (cs ds : List Call) (l m : List ℕ)
+      → BringInOrder k K total own cs l → BringInOrder k K total own ds m → ((number : ℕ) → elem number l ≡ elem number m)
+      → noneComplete (plainAnswersOf (plainAfter lent events) cs) ≡ true → PlainShuffled (plainAfter lent events) cs ds m
 
 -- ---- which logs can be made
 -- What octets say of an entry: its key and its part are within their types, and the part has as many octets as are noted.
@@ -177,5 +204,7 @@ pub record PlainEngine (n : ℕ) (k : Kind) (Timely : List ℕ → Type 0) : Typ
   pub always-in-step : AlwaysInStep n k
   pub wake-window : (K : Key) (P : List ℕ) (parts : List (List ℕ)) → PlainWakeWindow n k K P parts Timely
   pub others-unseen : (K : Key) (P : List ℕ) (parts : List (List ℕ)) → PlainOthersUnseen n k K P parts Timely
+  pub isolated : (K : Key) (P : List ℕ) (parts : List (List ℕ)) → PlainIsolated n k K P parts Timely
   pub kept-then-held : PlainKeptThenHeld n k
   pub either-order : PlainEitherOrder n k
+  pub any-order : PlainAnyOrder n k
