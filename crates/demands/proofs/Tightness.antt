@@ -71,16 +71,27 @@ use Rattle.types.specs.declared.Outgoing.the-variants as outgoing
 use Rattle.types.specs.declared.Announcing.{Announcing}
 use Rattle.types.specs.declared.Announcing.the-variants as announcing
 use Rattle.report.specs.Reporting as report
-use Rattle.demands.specs.Tightness.{Tight, toldBuilt, toldMade, toldPart, toldReport, toldHanded, toldTaken, toldAssessed, toldSent, toldCame, Tellings, PlainPromises, One, Promises, toldBeaten}
+use Rattle.types.specs.declared.Log.{Log}
+use Rattle.types.specs.declared.LogMade.{LogMade}
+use Rattle.types.specs.declared.LogTaken.{LogTaken}
+use Rattle.types.specs.declared.LogBeaten.{LogBeaten}
+use Rattle.plain.specs.Entries.{entriesFrom, LogState, stateIn}
+use Rattle.plain.specs.Engine as log
+use Rattle.plain.specs.ReadOff.{recordOf}
+use Rattle.log.specs.Laws.{entries-long}
+use Rattle.demands.specs.Tightness.{Tight, OneIn, toldLogMade, toldLogTaken, toldLogBeaten, fixedTaken, fixedBeaten, toldBuilt, toldMade, toldPart, toldReport, toldHanded, toldTaken, toldAssessed, toldSent, toldCame, Tellings, PlainPromises, One, Promises, toldBeaten}
 use Rattle.capture.specs.Captures.{nextRun, recordIn}
 use Rattle.ussd.specs.Ussd as ussd
 use Rattle.build.specs.declared.Ruling.{Ruling}
 use Rattle.build.specs.declared.Ruling.the-variants as ruling
 use Rattle.build.specs.Within.{toldRuling}
 
--- what can be read back is told of one outcome only
+-- what can be read back is the same in outcomes that are told alike; if all can be read back, the outcomes are
+alike : {O P F : Type 0} (told : O → P) (fixed : O → F) (back : P → F) → ((r : O) → back (told r) ≡ fixed r) → (rule : P) → OneIn fixed (λ (r : O). told r ≡ rule)
+alike told fixed back recovers rule r₁ r₂ e₁ e₂ = sym (recovers r₁) ∙ ap back (e₁ ∙ sym e₂) ∙ recovers r₂
+
 tight : {O P : Type 0} (told : O → P) (back : P → O) → ((r : O) → back (told r) ≡ r) → Tight told
-tight told back recovers rule r₁ r₂ e₁ e₂ = sym (recovers r₁) ∙ ap back (e₁ ∙ sym e₂) ∙ recovers r₂
+tight told back recovers rule = alike told (λ r. r) back recovers rule
 
 -- ---- refusals
 -- the first of a list that has that number
@@ -303,6 +314,36 @@ beaten-back : (r : Beaten) → beatenOf (toldBeaten r) ≡ r
 unfolding beatenOf
 beaten-back r = ap (λ (x : beating.Beating). record { answer = x; «record» = r .record }) (beating-back (r .answer))
 
+-- ---- what calls on a log leave
+logMadeOf : log.BesideLog → LogMade
+logMadeOf (answer, l) = record { answer = makingOf answer; log = l }
+
+log-made-back : (r : LogMade) → logMadeOf (toldLogMade r) ≡ r
+unfolding logMadeOf
+log-made-back r = ap (λ (x : Making). record { answer = x; log = r .log }) (making-back (r .answer))
+
+-- the log by value is read back too: it has as many entries as it counts
+logOf : LogState → Log
+logOf s = record { kind = s .kind; slots = s .slots; count = list.length (s .log) }
+
+log-back : (l : Log) (lent : List ℕ) → logOf (stateIn l lent) ≡ l
+unfolding logOf
+log-back l lent = ap (λ (n : ℕ). record { kind = l .kind; slots = l .slots; count = n }) (entries-long lent (l .count) 0)
+
+logTakenOf : log.AfterLog → LogTaken × (LogState × List ℕ)
+logTakenOf a = (record { answer = answerOf (a .answer); log = logOf (a .state) }, (a .state, a .output))
+
+log-taken-back : (r : LogTaken × (List ℕ × List ℕ)) → logTakenOf (toldLogTaken r) ≡ fixedTaken r
+unfolding logTakenOf
+log-taken-back (r, (lent, output)) = λ i. (record { answer = answer-back (r .answer) i; log = log-back (r .log) lent i }, (stateIn (r .log) lent, output))
+
+logBeatenOf : log.AfterLogBeat → LogBeaten × LogState
+logBeatenOf a = (record { answer = beatingOf (a .answer); log = logOf (a .state) }, a .state)
+
+log-beaten-back : (r : LogBeaten × List ℕ) → logBeatenOf (toldLogBeaten r) ≡ fixedBeaten r
+unfolding logBeatenOf
+log-beaten-back (r, lent) = λ i. (record { answer = beating-back (r .answer) i; log = log-back (r .log) lent i }, stateIn (r .log) lent)
+
 -- ---- what judging a counter leaves
 judgementOf : Outcome ℕ → Judgement
 judgementOf (refused n) = judgement.Refused (refusalOf n)
@@ -472,6 +513,12 @@ promises = record {
   record-formed = λ x. plain (recordFormed (x .count) x);
   take-message = λ x sender ud cells out. tellings .take-message-and-page _;
   take-page = λ x page cells out. tellings .take-message-and-page _;
+  fresh-log = λ k n. tight toldLogMade logMadeOf log-made-back _;
+  log-formed = λ l entries. plain (log.stateFormed (stateIn l entries));
+  log-take-message = λ l sender ud entries out. alike toldLogTaken fixedTaken logTakenOf log-taken-back _;
+  log-take-page = λ l page entries out. alike toldLogTaken fixedTaken logTakenOf log-taken-back _;
+  log-beat = λ l limit entries. alike toldLogBeaten fixedBeaten logBeatenOf log-beaten-back _;
+  log-record = λ l entries. plain (recordOf (l .slots) (l .kind) (entriesFrom entries 0 (l .count)));
   write-message = λ k width reference number p out. tellings .write-message-and-page _;
   write-page = λ serial identifier dcs number p out. tellings .write-message-and-page _;
   write-report = λ spi capacity edition p out. tellings .write-report _;

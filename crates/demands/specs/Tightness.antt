@@ -40,6 +40,13 @@ use Rattle.types.specs.declared.Taken.{Taken}
 use Rattle.types.specs.declared.Beaten.{Beaten}
 use Rattle.beats.specs.Beats as beats
 use Rattle.series.specs.Taking as taking
+use Rattle.types.specs.declared.Log.{Log}
+use Rattle.types.specs.declared.LogMade.{LogMade}
+use Rattle.types.specs.declared.LogTaken.{LogTaken}
+use Rattle.types.specs.declared.LogBeaten.{LogBeaten}
+use Rattle.plain.specs.Entries.{entriesFrom, LogState, stateIn}
+use Rattle.plain.specs.Engine as log
+use Rattle.plain.specs.ReadOff.{recordOf}
 use Rattle.types.specs.declared.WrittenPart.{WrittenPart}
 use Rattle.split.specs.Splitting as split
 use Rattle.types.specs.declared.Spi.{Spi}
@@ -89,6 +96,23 @@ toldTaken (r, (cells, output)) = taking.after (taking.toldAnswer (r .answer)) (r
 -- an answer of a beat with the record
 abbrev pub toldBeaten : Beaten → beats.AfterBeat
 toldBeaten r = beats.beaten (beats.toldBeating (r .answer)) (r .record)
+
+-- the same of a log: beside the answer there is the log by value, and what its entries say in the lent octets
+abbrev pub toldLogMade : LogMade → log.BesideLog
+toldLogMade r = log.besideLog (toldMaking (r .answer)) (r .log)
+
+abbrev pub toldLogTaken : LogTaken × (List ℕ × List ℕ) → log.AfterLog
+toldLogTaken (r, (lent, output)) = log.afterLog (taking.toldAnswer (r .answer)) (stateIn (r .log) lent) output
+
+abbrev pub toldLogBeaten : LogBeaten × List ℕ → log.AfterLogBeat
+toldLogBeaten (r, lent) = log.beatenLog (beats.toldBeating (r .answer)) (stateIn (r .log) lent)
+
+-- what a promise on a log fixes: all of it but the lent octets that say nothing
+abbrev pub fixedTaken : LogTaken × (List ℕ × List ℕ) → LogTaken × (LogState × List ℕ)
+fixedTaken (r, (lent, output)) = (r, (stateIn (r .log) lent, output))
+
+abbrev pub fixedBeaten : LogBeaten × List ℕ → LogBeaten × LogState
+fixedBeaten (r, lent) = (r, stateIn (r .log) lent)
 
 -- an answer with the table of counters
 abbrev pub toldAssessed : JudgedCounter → counters.Assessed
@@ -150,8 +174,13 @@ PlainPromises = (Outcome : Type 0) → Tight {Outcome = Outcome} {Paper = Outcom
 abbrev pub One : {Outcome : Type 0} → (Outcome → Type 0) → Type 0
 One {Outcome} Promise = (r₁ r₂ : Outcome) → Promise r₁ → Promise r₂ → r₁ ≡ r₂
 
+-- the same of what a promise fixes of an outcome
+abbrev pub OneIn : {Outcome Fixed : Type 0} → (Outcome → Fixed) → (Outcome → Type 0) → Type 0
+OneIn {Outcome} {Fixed} fixed Promise = (r₁ r₂ : Outcome) → Promise r₁ → Promise r₂ → fixed r₁ ≡ fixed r₂
+
 -- Each call that a user can name, by its name, with its promise: "No public call lacks such a statement". The outcome is the answer; with a
--- lent buffer, the answer and the buffer afterwards; of a part of a slice, its octets. Where the part stands is not told (docs/PROMISES.md).
+-- lent buffer, the answer and the buffer afterwards; of a part of a slice, its octets. Where the part stands is not told, nor what the octets of a log
+-- that say nothing are (docs/PROMISES.md).
 pub record Promises : Type 0 where
   pub refusal-number : (x : Refusal) → One (λ (r : ℕ). r ≡ refusalNumber x)
   -- octets
@@ -207,6 +236,15 @@ pub record Promises : Type 0 where
   pub take-page : (x : Record) (page cells out : List ℕ)
       → One (λ (r : Taken × (List ℕ × List ℕ)). toldTaken r ≡ taking.takePage (x .count) (taking.state x cells out) page)
   pub beat : (x : Record) (limit : ℕ) → One (λ (r : Beaten). toldBeaten r ≡ beats.beat (x .count) x limit)
+  -- the same on a log
+  pub fresh-log : (k : Kind) (n : ℕ) → One (λ (r : LogMade). toldLogMade r ≡ log.makingLog n k)
+  pub log-formed : (l : Log) (entries : List ℕ) → One (λ (r : Bool). r ≡ log.stateFormed (stateIn l entries))
+  pub log-take-message : (l : Log) (sender : ℕ) (ud entries out : List ℕ)
+      → OneIn fixedTaken (λ (r : LogTaken × (List ℕ × List ℕ)). toldLogTaken r ≡ log.logTakeMessage (stateIn l entries) out sender ud)
+  pub log-take-page : (l : Log) (page entries out : List ℕ)
+      → OneIn fixedTaken (λ (r : LogTaken × (List ℕ × List ℕ)). toldLogTaken r ≡ log.logTakePage (stateIn l entries) out page)
+  pub log-beat : (l : Log) (limit : ℕ) (entries : List ℕ) → OneIn fixedBeaten (λ (r : LogBeaten × List ℕ). toldLogBeaten r ≡ log.logBeat (stateIn l entries) limit)
+  pub log-record : (l : Log) (entries : List ℕ) → One (λ (r : Record). r ≡ recordOf (l .slots) (l .kind) (entriesFrom entries 0 (l .count)))
   -- splitting
   pub write-message : (k : Kind) (width reference number : ℕ) (p out : List ℕ)
       → One (λ (r : WrittenPart × List ℕ). toldPart r ≡ split.writeMessage k width reference p number out)
