@@ -1,5 +1,5 @@
 -- The rules that a user's contract cites, under one name, and nothing of its own: a number of two octets, the sizes of buffers, a record, a fresh
--- one, what making one comes to, what taking and a beat come to, what reporting comes to, an empty table of counters, what judging a counter comes to, an empty
+-- one, what making one comes to, what taking and a beat come to, the same on a log, what reporting comes to, an empty table of counters, what judging a counter comes to, an empty
 -- table of outstanding commands, what its two calls come to, and what salvaging comes to.
 pub use Rattle.octets.specs.Octets.{numberOf}
 pub use Rattle.packet.specs.Packets.{mostOctets}
@@ -9,6 +9,11 @@ pub use Rattle.series.specs.Taking.{State, state, Answer, After, after, toldAns
 unfoldable pub use Rattle.series.specs.Taking.{takeMessage, takePage}
 pub use Rattle.beats.specs.Beats.{AfterBeat, beaten, toldBeating}
 unfoldable pub use Rattle.beats.specs.Beats.{beat}
+pub use Rattle.plain.specs.Entries.{entryOctets, mostEntries, logOctets, Entry, LogState, stateIn}
+unfoldable pub use Rattle.plain.specs.Entries.{logEntryAt, entriesFrom}
+pub use Rattle.plain.specs.Engine.{freshLog, BesideLog, besideLog, makingLog, AfterLog, afterLog, AfterLogBeat, beatenLog}
+unfoldable pub use Rattle.plain.specs.Engine.{stateFormed, logTakeMessage, logTakePage, logBeat}
+pub use Rattle.plain.specs.ReadOff.{recordOf}
 pub use Rattle.report.specs.Reporting.{Going, nothingGoes, inReport, announced, submitted, Reported, reported, toldOutgoing, announcesAnother, toldAnnouncing}
 unfoldable pub use Rattle.report.specs.Reporting.{writeReport, responseAnnounces}
 pub use Rattle.counters.specs.Counters.{noCounters, Assessed, assessed, toldJudgement}
