@@ -12,8 +12,11 @@ use types::SLOTS;
 use types::SerialNumber;
 use types::Slot;
 ghost use mathlib.Core.Path.{_≡_};
+ghost use mathlib.Core.Bool.{_&&_};
 ghost use Prim.Native.Nat.{_≤_, _<_};
-ghost use Rattle.slots.specs.Slots.{mostSlots, defaultSlots, opened, freeSlot, sameKey, bears, isFree, findIn, isLeastRecent, leastRecent, slotsIn, freshRecord, beside, toldMaking, making};
+ghost use lib.ListN.{length};
+ghost use lib.Dec.{ltb};
+ghost use Rattle.slots.specs.Slots.{mostSlots, defaultSlots, slotAt, opened, freeSlot, sameKey, bears, isFree, findIn, isLeastRecent, leastRecent, slotsIn, freshRecord, beside, toldMaking, making};
 ghost use Rattle.slots.specs.Found.{toldFound, Inside, newSeat, seatOf, withPartIn};
 
 // Which slot a search found.
@@ -140,21 +143,48 @@ fn bears(key: Key, x: Slot) -> bool
     (x.rank != 0) & same_key(k, key)
 }
 
-// The slot of the series with that key.
+// Whether slot i is one of the record's own, and used by the series with that key.
+fn bears_in(state: Record, key: Key, i: usize) -> bool
+    requires { ⌜ i < mostSlots ⌝ }
+    ensures { λ r. ⌜ (r ≡ (ltb i (slotsIn state) && bears key (slotAt (state .slots) i))) × (length (state .slots) ≡ mostSlots) ⌝ }
+{
+    let n = slots_in(state);
+    let x = state.slots[i];
+    (i < n) & bears(key, x)
+}
+
+// The slot of the series with that key. This search and that of a rank ask of each slot by a number that is known when they are compiled: a loop
+// over the slots would copy the record first.
 fn find_key(state: Record, key: Key) -> Found
     ensures { λ r. ⌜ toldFound r ≡ findIn (slotsIn state) (bears key) (state .slots) ⌝ }
     ensures { λ r. ⌜ Inside mostSlots r ⌝ }
 {
-    let n = slots_in(state);
-    let mut i = 0;
-    while i < n {
-        let x = state.slots[i];
-        if bears(key, x) {
-            return Found::At(i);
-        }
-        i = i + 1;
+    if bears_in(state, key, 0) {
+        return Found::At(0);
+    }
+    if bears_in(state, key, 1) {
+        return Found::At(1);
+    }
+    if bears_in(state, key, 2) {
+        return Found::At(2);
+    }
+    if bears_in(state, key, 3) {
+        return Found::At(3);
+    }
+    if bears_in(state, key, 4) {
+        return Found::At(4);
     }
     Found::Nothing
+}
+
+// Whether slot i is one of the record's own, and has rank r.
+fn ranks_in(state: Record, r: u8, i: usize) -> bool
+    requires { ⌜ i < mostSlots ⌝ }
+    ensures { λ b. ⌜ (b ≡ (ltb i (slotsIn state) && isLeastRecent r (slotAt (state .slots) i))) × (length (state .slots) ≡ mostSlots) ⌝ }
+{
+    let n = slots_in(state);
+    let x = state.slots[i];
+    (i < n) & (x.rank == r)
 }
 
 // The first slot of rank r.
@@ -162,15 +192,20 @@ fn find_rank(state: Record, r: u8) -> Found
     ensures { λ f. ⌜ toldFound f ≡ findIn (slotsIn state) (isLeastRecent r) (state .slots) ⌝ }
     ensures { λ f. ⌜ Inside mostSlots f ⌝ }
 {
-    let n = slots_in(state);
-    let mut i = 0;
-    while i < n {
-        let x = state.slots[i];
-        let here = x.rank == r;
-        if here {
-            return Found::At(i);
-        }
-        i = i + 1;
+    if ranks_in(state, r, 0) {
+        return Found::At(0);
+    }
+    if ranks_in(state, r, 1) {
+        return Found::At(1);
+    }
+    if ranks_in(state, r, 2) {
+        return Found::At(2);
+    }
+    if ranks_in(state, r, 3) {
+        return Found::At(3);
+    }
+    if ranks_in(state, r, 4) {
+        return Found::At(4);
     }
     Found::Nothing
 }

@@ -31,23 +31,22 @@ pub fn at_front(x: Slot) -> Slot
 }
 
 // The record with x in slot i, and the other slots at the ranks that they have once slot i has come to the front, or was freed. If there
-// is no slot i, the record as it is.
+// is no slot i, the record as it is. There is one return: with two the record would be copied once more.
 pub fn replaced(mut state: Record, i: usize, front: bool, x: Slot) -> Record
     ensures { λ r. ⌜ r ≡ replaced front state i x ⌝ }
 {
     let n = slots_in(state);
-    if n <= i {
-        return state;
+    if i < n {
+        let old = state.slots[i];
+        let r = old.rank;
+        let mut j = 0;
+        while j < n {
+            let mut y = state.slots[j];
+            y.rank = rank_after(front, r, y.rank);
+            state.slots[j] = y;
+            j = j + 1;
+        }
+        state.slots[i] = x;
     }
-    let old = state.slots[i];
-    let r = old.rank;
-    let mut j = 0;
-    while j < n {
-        let mut y = state.slots[j];
-        y.rank = rank_after(front, r, y.rank);
-        state.slots[j] = y;
-        j = j + 1;
-    }
-    state.slots[i] = x;
     state
 }

@@ -1,19 +1,12 @@
--- `find_rank` meets its contract: no slot before i has the rank, so the first that has it is the one found, and behind the last there is none. Assumes nothing.
-use Prim.Native.Nat.{_-_}
-use Rattle.slots.specs.Slots.{isLeastRecent}
-use Rattle.slots.specs.SearchLaws.{Passed}
+-- `find_rank` meets its contract: the first slot that has the rank is the one found, since none before it has, and if none has there is none.
+-- Assumes nothing.
 use Rattle.slots.proofs.FindSteps.{findSteps}
 use Rattle.slots.proofs.find.find_rank.Statement.{statement}
 use Rattle.slots.proofs.find.find_rank.Tie as tie
 
-abbrev Inv-loop : tie.InvT-loop
-Inv-loop r state n i₀ i = Passed (isLeastRecent r) n (state .slots) i
-
-abbrev μ-loop : tie.MeasureT-loop
-μ-loop r state n i₀ i = n - i
-
 pub find-rank-spec : {M : Type 1} → statement M
 find-rank-spec =
     tie.close
-    (tie.spec Inv-loop μ-loop (λ c κs. search findSteps) (λ c. search findSteps) (λ c. search findSteps) (λ c. search findSteps)
-    (λ c. search findSteps) (λ c. search findSteps) (λ c. search findSteps) (λ c. search findSteps) (λ c. search findSteps))
+    (tie.spec (λ c κs. search findSteps) (λ c. search findSteps) (λ c κs. search findSteps) (λ c. search findSteps) (λ c κs. search findSteps)
+    (λ c. search findSteps) (λ c κs. search findSteps) (λ c. search findSteps) (λ c κs. search findSteps) (λ c. search findSteps)
+    (λ c. search findSteps))

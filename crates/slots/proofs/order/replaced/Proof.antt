@@ -1,5 +1,5 @@
--- `replaced` meets its contract. Where there is no slot i, so it says. Else the slots before j have their new rank and the others are as they
--- were; behind the last, all have, and slot i is set to x. Assumes nothing.
+-- `replaced` meets its contract. Where there is no slot i, nothing is changed. Else the slots before j have their new rank and the others are as
+-- they were; behind the last, all have, and slot i is set to x. Assumes nothing.
 use Prim.Native.Nat.{_-_}
 use Rattle.slots.specs.Order.{rankAfter, reranked, Changed}
 use Rattle.slots.proofs.OrderSteps.{orderSteps}
@@ -16,6 +16,6 @@ pub replaced-spec : {M : Type 1} → statement M
 replaced-spec =
     tie.close
     (tie.spec Inv-loop μ-loop (λ c κs. search orderSteps) (λ c. search orderSteps) (λ c. search orderSteps) (λ c. search orderSteps)
-    (λ c. search orderSteps) (λ c. search orderSteps) (λ c. search orderSteps) (λ c κs. search orderSteps)
+    (λ c. search orderSteps) (λ c. search orderSteps) (λ c κs. search orderSteps) (λ c. search orderSteps)
     (λ c. search orderSteps) (λ c. search orderSteps) (λ c. search orderSteps) (λ c. search orderSteps)
     (λ c. search orderSteps) (λ c. search orderSteps) (λ c. search orderSteps) (λ c. search orderSteps))
