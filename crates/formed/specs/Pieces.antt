@@ -1,14 +1,15 @@
 -- Parts of the rules for which the code has a function of its own, over the fields that it takes.
-use Prim.Native.Nat.{ℕ}
+use Prim.Native.Nat.{ℕ, _+_}
 use mathlib.Core.Bool.{Bool, not, cond, _&&_, _||_}
-use mathlib.Core.List.{List}
+use mathlib.Core.List.{List, [], _∷_}
+use lib.ListN.{getD}
 use lib.Dec.{eqb, ltb, leb}
 use Rattle.types.specs.declared.Kind.{Kind}
 use Rattle.types.specs.declared.Key.{Key}
 use Rattle.arrival.specs.Page.{pageContent}
 use Rattle.arrival.specs.Keys.{ofPages, room}
 use Rattle.types.specs.declared.Slot.{Slot}
-use Rattle.slots.specs.Below.{allBelow}
+use Rattle.slots.specs.Below.{allBelow, anyBelow, countBelow}
 use Rattle.slots.specs.Slots.{mostSlots, slotAt, isFree, used, sameKey}
 use Rattle.formed.specs.Formed.{markAt, sizeAt, slotFormed, countAhead}
 
@@ -43,3 +44,10 @@ apartBefore xs i = allBelow i (pairHolds xs i)
 
 abbrev pub slotsApart : ℕ → List Slot → Bool
 slotsApart n xs = allBelow n (apartBefore xs)
+
+-- of `ranked`: five ranks by themselves, and whether those that are not 0 are 1, 2, .. without a gap
+abbrev pub fiveOf : ℕ → ℕ → ℕ → ℕ → ℕ → ℕ → ℕ
+fiveOf a b c d e i = getD (a ∷ b ∷ c ∷ d ∷ e ∷ []) i 0
+
+abbrev pub gapless : (ℕ → ℕ) → Bool
+gapless f = allBelow (countBelow mostSlots (λ i. not (eqb (f i) 0))) (λ r. anyBelow mostSlots (λ i. eqb (f i) (r + 1)))

@@ -1,8 +1,8 @@
 -- What each test of a record comes to, told of what it reads: one law for each return, call and turn of a loop. What is read is a variable here, with
 -- the equation that says what it is, so whoever reads a slot in another form tests it by the same laws.
-use Prim.Native.Nat.{ℕ, _+_, _-_, _*_, _≤_, _<_}
+use Prim.Native.Nat.{ℕ, _+_, _-_, _≤_, _<_}
 use mathlib.Core.Path.{_≡_, refl, sym, ap, _∙_}
-use mathlib.Core.Bool.{Bool, true, false, not, cond, _&&_, _||_, and-true}
+use mathlib.Core.Bool.{Bool, true, false, not, cond, _&&_, _||_}
 use mathlib.Core.List.{List}
 use lib.ListN.{length}
 use lib.Dec.{eqb, ltb, leb}
@@ -21,7 +21,7 @@ use Rattle.slots.specs.BelowLaws.{all-same, all-both, fault-from, fault-more, f
 use Rattle.slots.specs.Slots.{mostSlots, slotAt, used, isFree, sameKey}
 use Rattle.formed.specs.Formed.{sixteen, markAt, sizeAt, zeroKey, zeroPart, allZero, partFormed, heldCount, usedFormed, slotFormed, mostBeats, keyTwice, keysDiffer, countAhead, inStep, countsFollow, usedCount, isRank, ranked, slotsFormed, recordFormed}
 use Rattle.formed.specs.Laws.{number-tells}
-use Rattle.formed.specs.Pieces.{fewest, most, partWithin, slotHolds, slotsHold, pairApart, pairHolds, apartBefore, slotsApart}
+use Rattle.formed.specs.Pieces.{fewest, most, partWithin, slotHolds, slotsHold, pairApart, apartBefore, slotsApart}
 
 -- ---- a part: a fault is what is not so
 pub zero-wrong : (x : Slot) (i : ℕ) (h : Bool) (n : ℕ) → h ≡ markAt x i → n ≡ sizeAt x i → (h || not (eqb n 0)) ≡ not (zeroPart x i)
@@ -150,37 +150,6 @@ pair-told x y a b c e f g = rw (e, f, g)
 
 -- ---- the record
 module _ (xs : List Slot) where
-  only-these : (i : ℕ) → allBelow i (apartBefore xs) && allBelow 0 (pairHolds xs i) ≡ allBelow i (apartBefore xs)
-  only-these i = ap (λ (t : Bool). allBelow i (apartBefore xs) && t) (sym (all-from (pairHolds xs i))) ∙ and-true (allBelow i (apartBefore xs))
-
-  -- the pairs of the slots before i, and those of slot i with each before j
-  pub apart-start : true ≡ allBelow 0 (apartBefore xs) && allBelow 0 (pairHolds xs 0)
-  unfolding allBelow
-  apart-start = refl
-
-  pub apart-more : (i j : ℕ) (ok b : Bool) → ok ≡ allBelow i (apartBefore xs) && allBelow j (pairHolds xs i) → b ≡ pairHolds xs i j
-      → ok && b ≡ allBelow i (apartBefore xs) && allBelow (j + 1) (pairHolds xs i)
-  apart-more i j ok b e f = ap (λ (t : Bool). t && b) e ∙ go (allBelow i (apartBefore xs)) (all-more (pairHolds xs i) j (allBelow j (pairHolds xs i)) b refl f)
-    where
-      go : (t : Bool) → allBelow j (pairHolds xs i) && b ≡ allBelow (j + 1) (pairHolds xs i)
-          → (t && allBelow j (pairHolds xs i)) && b ≡ t && allBelow (j + 1) (pairHolds xs i)
-      go true h = h
-      go false h = refl
-
-  pub apart-next : (i j : ℕ) (ok : Bool) → ok ≡ allBelow i (apartBefore xs) && allBelow j (pairHolds xs i) → j ≤ i → i ≤ j
-      → ok ≡ allBelow (i + 1) (apartBefore xs) && allBelow 0 (pairHolds xs (i + 1))
-  apart-next i j ok e l m =
-      let s : j ≡ i = omega arith in
-      e ∙ ap (λ (m : ℕ). allBelow i (apartBefore xs) && allBelow m (pairHolds xs i)) s
-      ∙ all-more (apartBefore xs) i (allBelow i (apartBefore xs)) (apartBefore xs i) refl refl ∙ sym (only-these (i + 1))
-
-  -- behind the last slot no pair is begun
-  pub apart-told : (n i j : ℕ) (ok : Bool) → ok ≡ allBelow i (apartBefore xs) && allBelow j (pairHolds xs i) → j ≤ (n - i) * 5 → i ≤ n → n ≤ i → ok ≡ slotsApart n xs
-  apart-told n i j ok e none l m =
-      let z : j ≡ 0 = omega arith in
-      e ∙ ap (λ (m : ℕ). allBelow i (apartBefore xs) && allBelow m (pairHolds xs i)) z ∙ only-these i
-      ∙ all-through (apartBefore xs) i n l m (allBelow i (apartBefore xs)) refl
-
   -- two tests of each pair at once
   both-apart : (n : ℕ) → slotsApart n xs ≡ keysDiffer n xs && countsFollow n xs
   unfolding keysDiffer countsFollow
@@ -245,10 +214,6 @@ pub ruleset testLaws = (
   twice-told,
   ahead-told,
   pair-told,
-  apart-start,
-  apart-more,
-  apart-next,
-  apart-told,
   slot-more,
   not-formed,
   number-inside,

@@ -20,8 +20,8 @@ ghost use Rattle.arrival.specs.Message.{mostParts};
 ghost use Rattle.arrival.specs.Keys.{messageKeyFormed, pageKeyFormed, keyFormed, totalFits};
 ghost use Rattle.slots.specs.Below.{allBelow};
 ghost use Rattle.slots.specs.Slots.{mostSlots, used, sameKey};
-ghost use Rattle.formed.specs.Formed.{zeroKey, zeroPart, allZero, partFormed, heldCount, usedFormed, slotFormed, countAhead, usedCount, ranked, recordFormed};
-ghost use Rattle.formed.specs.Pieces.{fewest, most, slotsHold, pairApart, slotsApart};
+ghost use Rattle.formed.specs.Formed.{zeroKey, zeroPart, allZero, partFormed, heldCount, usedFormed, slotFormed, countAhead, ranked, recordFormed};
+ghost use Rattle.formed.specs.Pieces.{fewest, most, slotsHold, pairApart, slotsApart, fiveOf, gapless};
 
 // A flag as a number, to count it.
 pub fn one(flag: bool) -> u8
@@ -187,22 +187,6 @@ fn slot_formed(kind: Kind, x: Slot) -> bool
     used_formed(kind, x)
 }
 
-// Whether each slot is well formed, and those past the record's own are free. The array has as many as its type says.
-fn slots_formed(state: Record) -> bool
-    ensures { λ r. ⌜ (r ≡ slotsHold (state .count) (state .kind) (state .slots)) × (length (state .slots) ≡ mostSlots) ⌝ }
-{
-    let kind = state.kind;
-    let n = state.count as usize;
-    let mut ok = true;
-    let mut i = 0;
-    while i < SLOTS {
-        let x = state.slots[i];
-        ok = ok & (slot_formed(kind, x) & ((i < n) | (x.rank == 0)));
-        i = i + 1;
-    }
-    ok
-}
-
 // Whether two slots are used with one key.
 fn key_twice(x: Slot, y: Slot) -> bool
     ensures { λ r. ⌜ r ≡ (used x && used y && sameKey (x .key) (y .key)) ⌝ }
@@ -230,22 +214,26 @@ fn pair_apart(x: Slot, y: Slot) -> bool
     !twice & (!ahead & !behind)
 }
 
-// Whether no two used slots of the first n have one key, and none has a higher count of beats than a less recent one. The record is held by one
-// loop over the pairs of slots: handed on for each slot it would be copied each time.
-fn slots_apart(state: Record, n: usize) -> bool
-    requires { ⌜ n ≤ mostSlots ⌝ }
-    ensures { λ r. ⌜ r ≡ slotsApart n (state .slots) ⌝ }
+// Whether each slot is well formed, those past the record's own are free, no two used slots have one key, and none has a higher count of beats than a
+// less recent one. One loop over the slots and over the pairs of each used one holds the record: each function that holds it copies it. The array has
+// as many slots as its type says.
+fn slots_hold(state: Record) -> bool
+    ensures { λ r. ⌜ (r ≡ (slotsHold (state .count) (state .kind) (state .slots) && slotsApart mostSlots (state .slots))) × (length (state .slots) ≡ mostSlots) ⌝ }
 {
+    let kind = state.kind;
+    let n = state.count as usize;
     let mut ok = true;
     let mut i = 0;
     let mut j = 0;
-    while i < n {
-        if j < i {
-            let x = state.slots[i];
+    while i < SLOTS {
+        let x = state.slots[i];
+        let paired = (j < i) & (x.rank != 0);
+        if paired {
             let y = state.slots[j];
             ok = ok & pair_apart(x, y);
             j = j + 1;
         } else {
+            ok = ok & (slot_formed(kind, x) & ((i < n) | (x.rank == 0)));
             i = i + 1;
             j = 0;
         }
@@ -253,45 +241,31 @@ fn slots_apart(state: Record, n: usize) -> bool
     ok
 }
 
-// How many of the first n slots are used.
-fn used_count(state: Record, n: usize) -> u8
-    requires { ⌜ n ≤ mostSlots ⌝ }
-    ensures { λ r. ⌜ (r ≡ usedCount n (state .slots)) × (r ≤ mostSlots) ⌝ }
+// Whether the ranks that are not 0 are 1, 2, .. without a gap: each number up to how many there are is one of the five.
+fn gapless(a: u8, b: u8, c: u8, d: u8, e: u8) -> bool
+    ensures { λ r. ⌜ r ≡ gapless (fiveOf a b c d e) ⌝ }
 {
-    let mut m = 0;
-    let mut i = 0;
-    while i < n {
-        let x = state.slots[i];
-        m = m + one(x.rank != 0);
-        i = i + 1;
-    }
-    m
-}
-
-// Whether the used slots of the first n are ranked 1, 2, .. without a gap: of each rank up to their number there is a slot. One loop over ranks and
-// slots, as above.
-fn ranked(state: Record, n: usize) -> bool
-    requires { ⌜ n ≤ mostSlots ⌝ }
-    ensures { λ r. ⌜ r ≡ ranked n (state .slots) ⌝ }
-{
-    let m = used_count(state, n);
+    let m = one(a != 0) + one(b != 0) + one(c != 0) + one(d != 0) + one(e != 0);
     let mut ok = true;
-    let mut any = false;
     let mut r = 0;
-    let mut i = 0;
     while r < m {
-        if i < n {
-            let x = state.slots[i];
-            any = any | (x.rank == r + 1);
-            i = i + 1;
-        } else {
-            ok = ok & any;
-            any = false;
-            r = r + 1;
-            i = 0;
-        }
+        let k = r + 1;
+        ok = ok & ((a == k) | (b == k) | (c == k) | (d == k) | (e == k));
+        r = k;
     }
     ok
+}
+
+// Whether the used slots are ranked so. Each slot is read by a number that is known when this is compiled, which needs no copy of the record.
+fn ranked(state: Record) -> bool
+    ensures { λ r. ⌜ r ≡ ranked mostSlots (state .slots) ⌝ }
+{
+    let a = state.slots[0];
+    let b = state.slots[1];
+    let c = state.slots[2];
+    let d = state.slots[3];
+    let e = state.slots[4];
+    gapless(a.rank, b.rank, c.rank, d.rank, e.rank)
 }
 
 // Whether the library can have made the record: it has 1 to 5 slots, and they are as they can be.
@@ -300,7 +274,7 @@ pub fn record_formed(state: Record) -> bool
 {
     let n = state.count as usize;
     if (n != 0) & !(SLOTS < n) {
-        return slots_formed(state) & slots_apart(state, n) & ranked(state, n);
+        return slots_hold(state) & ranked(state);
     }
     false
 }
