@@ -1,5 +1,5 @@
 -- What the proofs of taking search: one law for each return and call, over plain variables.
-use Prim.Native.Nat.{ℕ, _≤_}
+use Prim.Native.Nat.{ℕ, _≤_, _<_}
 use mathlib.Core.Path.{_≡_, sym, ap, _∙_}
 use mathlib.Core.Bool.{Bool, true, false, not, _||_}
 use mathlib.Core.List.{List}
@@ -31,7 +31,7 @@ use Rattle.series.specs.declared.take.Change.{Change}
 use Rattle.series.specs.declared.take.Step.the-variants.{Refuses, Repeats, Keeps, Finishes}
 use Rattle.slots.specs.BelowLaws.{fault-from, fault-more, fault-through}
 use Rattle.slots.specs.Found.{seatOf, seat-found, withPartIn, with-part-in}
-use Rattle.slots.specs.Slots.{slotAt, opened, freeSlot, withPart, atFront, toFront, freed, withSlots, slotsIn}
+use Rattle.slots.specs.Slots.{mostSlots, slotAt, opened, freeSlot, withPart, atFront, toFront, freed, withSlots, slotsIn}
 use Rattle.slots.specs.Order.{replaced, front-in, freed-in}
 use Rattle.formed.specs.Formed.{recordFormed}
 use Rattle.cells.specs.Cells.{cellsSize, cellAt, joinedOctets}
@@ -110,15 +110,23 @@ module _ (k : Kind) (key : Key) (o : Seat) (x : Slot) (cells output : List ℕ) 
 
   -- of the record that the code has
   pub part-done : (r : Record) (output′ : List ℕ) → Makes (λ r. Seated r k key o x) c cells′ output′ partDue → r .kind ≡ k
-      → o ≡ seatOf (slotsIn r) (r .slots) key → slotAt (r .slots) (o .slot) ≡ x → Sound (r .count) r cells
+      → o ≡ seatOf (slotsIn r) (r .slots) key → x ≡ slotAt (r .slots) (o .slot) → Sound (r .count) r cells
       → after (toldAnswer (c .answer)) (changed r c) cells′ output′ ≡ partDue r
-  part-done r output′ makes kind seat entry w = makes r (rw (← kind, ← entry) (law.seated r cells w key o seat))
+  part-done r output′ makes kind seat entry w = makes r (rw (← kind, entry) (law.seated r cells w key o seat))
+
+-- ---- a slot that is read by its number
+module _ (xs : List Slot) (i : ℕ) where
+  pub slot-so : (k : ℕ) → i ≡ k → slotAt xs k ≡ slotAt xs i
+  slot-so k e = rw e
+
+  pub slot-last : i < mostSlots → (i ≡ 0 → ⊥) → (i ≡ 1 → ⊥) → (i ≡ 2 → ⊥) → (i ≡ 3 → ⊥) → slotAt xs 4 ≡ slotAt xs i
+  slot-last l a b c d = let e : i ≡ 4 = omega arith in rw e
 
 -- ---- what reading gave
-pub unfit-told : (r : Record) (cells out : ℕ) (b : Bool) → b ≡ recordFormed (r .count) r
-    → (not (eqb cells (cellsSize (r .count))) || not (eqb out mostOctets) || not b)
-    ≡ (not (eqb cells (cellsSize (r .count))) || not (eqb out mostOctets) || not (recordFormed (r .count) r))
-unfit-told r cells out b e = rw e
+pub unfit-told : (r : Record) (cells out : ℕ) (b u : Bool) → b ≡ recordFormed (r .count) r
+    → u ≡ (not (eqb cells (cellsSize (r .count))) || not (eqb out mostOctets) || not b)
+    → u ≡ (not (eqb cells (cellsSize (r .count))) || not (eqb out mostOctets) || not (recordFormed (r .count) r))
+unfit-told r cells out b u e f = rw e at f
 
 module _ (r : Record) (cells output : List ℕ) (b : Bool)
     (told : b ≡ (not (eqb (length cells) (cellsSize (r .count))) || not (eqb (length output) mostOctets) || not (recordFormed (r .count) r))) where
@@ -151,10 +159,11 @@ module _ (r : Record) (cells output : List ℕ) (b : Bool)
       pub seat-room : (o : Seat) → o ≡ seatOf (slotsIn r) (r .slots) key → Room (o .slot) number own cells
       seat-room o seat = law.room-at r cells sound key total number own admitted (o .slot) (rw seat (law.seat-own r cells sound key))
 
-      pub seat-whole : (o : Seat) → o ≡ seatOf (slotsIn r) (r .slots) key → o .held ≡ true
-          → Whole (slotAt (r .slots) (o .slot)) (o .slot) number own cells output
-      seat-whole o seat h =
-          law.whole-at r cells sound key total number own admitted (o .slot) (seat-found (slotsIn r) (r .slots) key o seat h) output (fit-output fit)
+      pub seat-whole : (o : Seat) (x : Slot) → o ≡ seatOf (slotsIn r) (r .slots) key → x ≡ slotAt (r .slots) (o .slot) → o .held ≡ true
+          → Whole x (o .slot) number own cells output
+      seat-whole o x seat is h =
+          rw is
+          (law.whole-at r cells sound key total number own admitted (o .slot) (seat-found (slotsIn r) (r .slots) key o seat h) output (fit-output fit))
 
     module _ (fit : b ≡ false) (c : Change) where
       pub takes-refused : (q : Refusal) → z ≡ arrival.Refused q → (c .answer ≡ answer.Refused q) × (c .moves ≡ false) → Done c cells output
@@ -243,6 +252,8 @@ pub ruleset moreSteps = (
 
 pub ruleset takeSteps = (
   needs,
+  slot-so,
+  slot-last,
   unfit-told,
   takes-unfit,
   fit-output,

@@ -18,7 +18,7 @@ use types::Slot;
 use types::Taken;
 ghost use mathlib.Core.Path.{_≡_};
 ghost use mathlib.Core.Bool.{true, false, not, _||_};
-ghost use Prim.Native.Nat.{_≤_};
+ghost use Prim.Native.Nat.{_≤_, _<_};
 ghost use lib.ListN.{length};
 ghost use lib.Dec.{eqb};
 ghost use Rattle.octets.specs.Octets.{placed};
@@ -27,7 +27,7 @@ ghost use Rattle.packet.specs.Packets.{mostOctets};
 ghost use Rattle.arrival.specs.Arrivals.{toldArrival};
 ghost use Rattle.arrival.specs.Message.{mostParts};
 ghost use Rattle.joined.specs.Fronts.{packetIn, toldSize, lengthIn, outputWith};
-ghost use Rattle.slots.specs.Slots.{withPart, slotsIn};
+ghost use Rattle.slots.specs.Slots.{mostSlots, slotAt, withPart, slotsIn};
 ghost use Rattle.formed.specs.Formed.{recordFormed};
 ghost use Rattle.cells.specs.Cells.{cellsSize, cellAt, joinedOctets};
 ghost use Rattle.cells.specs.Handing.{Place, Reaches};
@@ -251,12 +251,31 @@ fn take_single(kind: Kind, paged: bool, part: &[u8], out: &mut [u8]) -> Change
 }
 
 // Whether a buffer lent is of another length than it must be, the cells by the record's number of slots, or the record is not well formed.
-fn unfit(state: Record, cells: usize, out: usize) -> bool
-    ensures { λ r. ⌜ r ≡ (not (eqb cells (cellsSize (state .count))) || not (eqb out mostOctets) || not (recordFormed (state .count) state)) ⌝ }
+fn unfit(formed: bool, count: u8, cells: usize, out: usize) -> bool
+    ensures { λ r. ⌜ r ≡ (not (eqb cells (cellsSize count)) || not (eqb out mostOctets) || not formed) ⌝ }
 {
-    let formed = record_formed(state);
-    let n = state.count as usize;
+    let n = count as usize;
     (cells != n * SLOT_OCTETS) | (out != PACKET_OCTETS) | !formed
+}
+
+// Slot i of the record. It is read by a number that is known when this is compiled: by another the record would be copied first.
+fn slot_of(state: Record, i: usize) -> Slot
+    requires { ⌜ i < mostSlots ⌝ }
+    ensures { λ r. ⌜ r ≡ slotAt (state .slots) i ⌝ }
+{
+    if i == 0 {
+        return state.slots[0];
+    }
+    if i == 1 {
+        return state.slots[1];
+    }
+    if i == 2 {
+        return state.slots[2];
+    }
+    if i == 3 {
+        return state.slots[3];
+    }
+    state.slots[4]
 }
 
 // The answer and the record, as they are handed back.
@@ -269,20 +288,22 @@ fn handed_back(answer: Answer, left: Record) -> Taken
     }
 }
 
-// Takes what reading the octets of a message or a page gave, once buffers and record are found to be as they must be. Only this function
-// looks into the record and makes another: handed on as a whole it would be copied each time.
+// Takes what reading the octets of a message or a page gave, if buffers and record are as they must be. Whether they are is tested by those who
+// call this: the test reads the record where it is, and here it would be given a copy.
 fn take_arrival(
     state: Record,
+    unfit: bool,
     paged: bool,
     octets: &[u8],
     arrival: Arrival,
     cells: &mut [u8],
     out: &mut [u8],
 ) -> Taken
+    requires { ⌜ unfit ≡ (not (eqb (length (now cells)) (cellsSize (state .count))) || not (eqb (length (now out)) mostOctets) || not (recordFormed (state .count) state)) ⌝ }
     requires { ⌜ Fitting (state .kind) (now octets) arrival ⌝ }
     ensures { λ r. ⌜ after (toldAnswer (r .answer)) (r .record) (now (cells .exit)) (now (out .exit)) ≡ takenWhereFit (state .count) (rule.state state (now (cells .entry)) (now (out .entry))) paged (now (octets .entry)) (toldArrival arrival) ⌝ }
 {
-    if unfit(state, cells.len(), out.len()) {
+    if unfit {
         return handed_back(Answer::Refused(Refusal::BufferOrRecord), state);
     }
     let kind = state.kind;
@@ -300,7 +321,7 @@ fn take_arrival(
             let part = arrival::own_octets(octets, start);
             let o = find::seat_of(state, key);
             let i = o.slot;
-            let x = state.slots[i];
+            let x = slot_of(state, i);
             take_part(kind, key, o, x, total, number as usize, part, cells, out)
         }
     };
@@ -324,8 +345,10 @@ pub fn take_message(
     ensures { λ r. ⌜ after (toldAnswer (r .answer)) (r .record) (now (cells .exit)) (now (out .exit)) ≡ rule.takeMessage (state .count) (rule.state state (now (cells .entry)) (now (out .entry))) sender (now (ud .entry)) ⌝ }
 {
     let kind = state.kind;
+    let formed = record_formed(state);
+    let bad = unfit(formed, state.count, cells.len(), out.len());
     let arrival = arrival::message::read_message(kind, sender, ud);
-    take_arrival(state, false, ud, arrival, cells, out)
+    take_arrival(state, bad, false, ud, arrival, cells, out)
 }
 
 // Takes a page in the same way.
@@ -333,6 +356,8 @@ pub fn take_page(state: Record, page: &[u8], cells: &mut [u8], out: &mut [u8]) -
     ensures { λ r. ⌜ after (toldAnswer (r .answer)) (r .record) (now (cells .exit)) (now (out .exit)) ≡ rule.takePage (state .count) (rule.state state (now (cells .entry)) (now (out .entry))) (now (page .entry)) ⌝ }
 {
     let kind = state.kind;
+    let formed = record_formed(state);
+    let bad = unfit(formed, state.count, cells.len(), out.len());
     let arrival = arrival::page::read_page(kind, page);
-    take_arrival(state, true, page, arrival, cells, out)
+    take_arrival(state, bad, true, page, arrival, cells, out)
 }

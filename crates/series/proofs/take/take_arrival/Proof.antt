@@ -13,21 +13,21 @@ use Rattle.series.proofs.take.take_arrival.Tie as tie
 
 -- the entry, as it is seen from where the arms meet
 abbrev start : tie.At-match-came → tie.Start
-start c = c .before .before .before .before .before .before
+start c = c .before .before .before .before .before
 
 -- where the arms meet, the change comes to what is due of the record
 done : (c : tie.At-match-came)
-    → after (toldAnswer (c .match .c .answer)) (changed (start c .args .t1) (c .match .c)) (c .match .cells) (c .match .out)
-    ≡ takenWhereFit (start c .args .t1 .count) (state (start c .args .t1) (now (start c .args .cells)) (now (start c .args .out))) (start c .args .paged) (now (start c .args .octets)) (toldArrival (start c .args .arrival))
+    → after (toldAnswer (c .match .c .answer)) (changed (start c .args .state) (c .match .c)) (c .match .cells) (c .match .out)
+    ≡ takenWhereFit (start c .args .state .count) (state (start c .args .state) (now (start c .args .cells)) (now (start c .args .out))) (start c .args .paged) (now (start c .args .octets)) (toldArrival (start c .args .arrival))
 done c =
     let fit = c .before .if1 .left in
-    let test = c .before .before .unfit .ensures in
-    let sound = fit-sound (start c .args .t1) (now (start c .args .cells)) (now (start c .args .out)) (c .before .before .unfit .result) test fit in
+    let test = start c .pre .0 in
+    let sound = fit-sound (start c .args .state) (now (start c .args .cells)) (now (start c .args .out)) (start c .args .unfit) test fit in
     ⊎-elim
-    (λ w. as-change (start c .args .t1) (w .4) (w .5) (w .6) (search (takes-refused, test, fit, w .3 .ensures)))
+    (λ w. as-change (start c .args .state) (w .4) (w .5) (w .6) (search (takes-refused, test, fit, w .3 .ensures)))
     (⊎-elim
-    (λ w. as-change (start c .args .t1) (w .8) (w .9) (w .10) (search (takes-single, test, fit, w .3 .ensures, w .5 .ensures)))
-    (λ w. as-change (start c .args .t1) (w .13) (w .14) (w .15) (search (takes-part, test, fit, w .3 .ensures, part-done _ _ _ _ (now (start c .args .cells)) (now (start c .args .out)) _ _ _ (w .8 .result) _ (start c .args .t1) _ (w .8 .ensures) refl (w .4 .ensures .0) refl sound))))
+    (λ w. as-change (start c .args .state) (w .8) (w .9) (w .10) (search (takes-single, test, fit, w .3 .ensures, w .5 .ensures)))
+    (λ w. as-change (start c .args .state) (w .13) (w .14) (w .15) (search (takes-part, test, fit, w .3 .ensures, part-done _ _ _ _ (now (start c .args .cells)) (now (start c .args .out)) _ _ _ (w .8 .result) _ (start c .args .state) _ (w .8 .ensures) refl (w .4 .ensures .0) (w .5 .ensures) sound))))
     (c .match .came)
 
 -- and each buffer is as long as it was
@@ -65,8 +65,9 @@ returns-3 c = search (stayed-so, done (c .before .before), c .before .if2 .left,
 pub take-arrival-spec : {M : Type 1} → statement M
 take-arrival-spec =
     tie.close
-    (tie.spec (λ c κs. search takeSteps) (λ c κs. search takeSteps) (λ c. search takeSteps) (λ c. search takeSteps)
-    (λ c κs. search takeSteps) (λ c. search takeSteps) (λ c κs. search takeSteps) (λ c κs. search takeSteps)
+    (tie.spec (λ c κs. search takeSteps) (λ c. search takeSteps) (λ c. search takeSteps) (λ c κs. search takeSteps)
     (λ c. search takeSteps) (λ c κs. search takeSteps) (λ c κs. search takeSteps) (λ c. search takeSteps)
-    (λ c. search takeSteps) (λ c. search takeSteps) take-part-requires (λ c κs. search takeSteps) (λ c κs. search takeSteps)
-    same-length same-length-2 returns-2 (λ c κs. search takeSteps) same-length-3 same-length-4 returns-3)
+    (λ c κs. search takeSteps) (λ c κs. search takeSteps) (λ c κs. search takeSteps) (λ c. search takeSteps)
+    take-part-requires (λ c κs. search takeSteps) (λ c κs. search takeSteps) same-length
+    same-length-2 returns-2 (λ c κs. search takeSteps) same-length-3
+    same-length-4 returns-3)
