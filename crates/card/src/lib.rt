@@ -3,6 +3,7 @@
 mod part;
 
 use layout::find;
+use layout::known::exact;
 use layout::read::count_in;
 use layout::read::kind_in;
 use types::Answer;
@@ -17,18 +18,21 @@ ghost use lib.Dec.{eqb};
 ghost use Rattle.packet.specs.Packets.{mostOctets};
 ghost use Rattle.arrival.specs.Arrivals.{toldArrival};
 ghost use Rattle.formed.specs.Formed.{recordFormed};
-ghost use Rattle.layout.specs.Layout.{recordIn, known};
+ghost use Rattle.layout.specs.Layout.{stateRecord, known};
+ghost use Rattle.layout.specs.Changes.{Exact};
 ghost use Rattle.cells.specs.Cells.{cellsSize};
 ghost use Rattle.series.specs.Taking as rule;
 ghost use Rattle.series.specs.Taking.{toldAnswer, after};
 ghost use Rattle.series.specs.Calls as input;
 ghost use Rattle.series.specs.Deciding.{Fitting};
-ghost use Rattle.card.specs.Card.{takeIn, Leaves};
+ghost use Rattle.card.specs.Card.{takenState, takeIn};
 
 // Whether a buffer lent is of another length than it must be, the cells by the record's number of slots, or the state holds no well-formed record.
 fn unfit(state: &[u8; STATE_OCTETS], cells: usize, out: usize) -> bool
-    ensures { λ r. ⌜ r ≡ (not (eqb cells (cellsSize (recordIn (now (state .entry)) .count))) || not (eqb out mostOctets) || not (known (now (state .entry)) && recordFormed (recordIn (now (state .entry)) .count) (recordIn (now (state .entry))))) ⌝ }
+    ensures { λ r. ⌜ r ≡ (not (eqb cells (cellsSize (stateRecord (now (state .entry)) .count))) || not (eqb out mostOctets) || not (known (now (state .entry)) && recordFormed (stateRecord (now (state .entry)) .count) (stateRecord (now (state .entry))))) ⌝ }
+    ensures { λ _. ⌜ Exact (now (state .entry)) ⌝ }
 {
+    exact(state);
     let formed = sound::state_formed(state);
     let n = octets::wide(count_in(state));
     (cells != n * SLOT_OCTETS) | (out != PACKET_OCTETS) | !formed
@@ -44,11 +48,10 @@ fn take_arrival(
     out: &mut [u8],
 ) -> Answer
     requires { ⌜ known (now state) ≡ true ⌝ }
-    requires { ⌜ rule.unfit (recordIn (now state) .count) (rule.state (recordIn (now state)) (now cells) (now out)) ≡ false ⌝ }
-    requires { ⌜ Fitting (recordIn (now state) .kind) (now octets) arrival ⌝ }
+    requires { ⌜ rule.unfit (stateRecord (now state) .count) (rule.state (stateRecord (now state)) (now cells) (now out)) ≡ false ⌝ }
+    requires { ⌜ Fitting (stateRecord (now state) .kind) (now octets) arrival ⌝ }
     ensures { λ _. ⌜ known (now (state .exit)) ≡ true ⌝ }
-    ensures { λ r. ⌜ after (toldAnswer r) (recordIn (now (state .exit))) (now (cells .exit)) (now (out .exit)) ≡ rule.taken (recordIn (now (state .entry)) .count) (rule.state (recordIn (now (state .entry))) (now (cells .entry)) (now (out .entry))) paged (now (octets .entry)) (toldArrival arrival) ⌝ }
-    ensures { λ r. ⌜ Leaves (toldAnswer r) (now (state .entry)) (now (state .exit)) ⌝ }
+    ensures { λ r. ⌜ after (toldAnswer r) (stateRecord (now (state .exit))) (now (cells .exit)) (now (out .exit)) ≡ rule.taken (stateRecord (now (state .entry)) .count) (rule.state (stateRecord (now (state .entry))) (now (cells .entry)) (now (out .entry))) paged (now (octets .entry)) (toldArrival arrival) ⌝ }
 {
     match arrival {
         Arrival::Refused(why) => Answer::Refused(why),
@@ -82,15 +85,15 @@ pub fn take_message(
     cells: &mut [u8],
     out: &mut [u8],
 ) -> Answer
-    ensures { λ r. ⌜ after (toldAnswer r) (recordIn (now (state .exit))) (now (cells .exit)) (now (out .exit)) ≡ takeIn (now (state .entry)) (now (cells .entry)) (now (out .entry)) (input.message sender (now (ud .entry))) ⌝ }
-    ensures { λ _. ⌜ known (now (state .exit)) ≡ known (now (state .entry)) ⌝ }
-    ensures { λ r. ⌜ Leaves (toldAnswer r) (now (state .entry)) (now (state .exit)) ⌝ }
+    ensures { λ r. ⌜ takenState (toldAnswer r) (now (state .exit)) (now (cells .exit)) (now (out .exit)) ≡ takeIn (now (state .entry)) (now (cells .entry)) (now (out .entry)) (input.message sender (now (ud .entry))) ⌝ }
 {
     if unfit(state, cells.len(), out.len()) {
         return Answer::Refused(Refusal::BufferOrRecord);
     }
     let arrival = arrival::message::read_message(kind_in(state), sender, ud);
-    take_arrival(state, false, ud, arrival, cells, out)
+    let answer = take_arrival(state, false, ud, arrival, cells, out);
+    exact(state);
+    answer
 }
 
 // Takes a page in the same way.
@@ -100,13 +103,13 @@ pub fn take_page(
     cells: &mut [u8],
     out: &mut [u8],
 ) -> Answer
-    ensures { λ r. ⌜ after (toldAnswer r) (recordIn (now (state .exit))) (now (cells .exit)) (now (out .exit)) ≡ takeIn (now (state .entry)) (now (cells .entry)) (now (out .entry)) (input.page (now (page .entry))) ⌝ }
-    ensures { λ _. ⌜ known (now (state .exit)) ≡ known (now (state .entry)) ⌝ }
-    ensures { λ r. ⌜ Leaves (toldAnswer r) (now (state .entry)) (now (state .exit)) ⌝ }
+    ensures { λ r. ⌜ takenState (toldAnswer r) (now (state .exit)) (now (cells .exit)) (now (out .exit)) ≡ takeIn (now (state .entry)) (now (cells .entry)) (now (out .entry)) (input.page (now (page .entry))) ⌝ }
 {
     if unfit(state, cells.len(), out.len()) {
         return Answer::Refused(Refusal::BufferOrRecord);
     }
     let arrival = arrival::page::read_page(kind_in(state), page);
-    take_arrival(state, true, page, arrival, cells, out)
+    let answer = take_arrival(state, true, page, arrival, cells, out);
+    exact(state);
+    answer
 }

@@ -22,20 +22,19 @@ ghost use Rattle.arrival.specs.Message.{mostParts};
 ghost use Rattle.joined.specs.Fronts.{packetIn, lengthIn, outputWith};
 ghost use Rattle.slots.specs.Slots.{opened, freeSlot, atFront, withPart, slotsIn};
 ghost use Rattle.slots.specs.Order.{replaced};
-ghost use Rattle.layout.specs.Layout.{recordIn, known};
-ghost use Rattle.layout.specs.Changes.{slotFrom, Became};
+ghost use Rattle.layout.specs.Layout.{stateRecord, known};
+ghost use Rattle.layout.specs.Changes.{stateSlot, Became};
 ghost use Rattle.cells.specs.Cells.{cellAt, joinedOctets};
 ghost use Rattle.cells.specs.Handing.{Place, Reaches};
 ghost use Rattle.series.specs.Taking as rule;
 ghost use Rattle.series.specs.Taking.{toldAnswer, after};
-ghost use Rattle.card.specs.Card.{Leaves};
 ghost use Rattle.series.specs.Deciding.{allWith, toldStep, stepAt, anyKeyOf, answerOf, Room, Whole, Holds, Seated};
 
 // ---- deciding
 // Whether each part of slot i up to the total is marked, or has the number. All sixteen are looked at, at once.
 fn all_with(state: &[u8; STATE_OCTETS], i: usize, total: u8, number: u8) -> bool
     requires { ⌜ total ≤ mostParts ⌝ }
-    ensures { λ r. ⌜ r ≡ allWith (slotFrom (now (state .entry)) i .held) total number ⌝ }
+    ensures { λ r. ⌜ r ≡ allWith (stateSlot (now (state .entry)) i .held) total number ⌝ }
 {
     let mut missing = 0;
     let mut j = 0;
@@ -59,9 +58,9 @@ fn decide(
     part: &[u8],
 ) -> Step
     requires { ⌜ Place i number ⌝ }
-    requires { ⌜ slotFrom (now state) i .total ≤ mostParts ⌝ }
+    requires { ⌜ stateSlot (now state) i .total ≤ mostParts ⌝ }
     requires { ⌜ Reaches i (now cells) ⌝ }
-    ensures { λ r. ⌜ toldStep i (slotFrom (now (state .entry)) i) r ≡ stepAt (now (cells .entry)) total number (now (part .entry)) i (slotFrom (now (state .entry)) i) ⌝ }
+    ensures { λ r. ⌜ toldStep i (stateSlot (now (state .entry)) i) r ≡ stepAt (now (cells .entry)) total number (now (part .entry)) i (stateSlot (now (state .entry)) i) ⌝ }
 {
     let j = number - 1;
     if total_at(state, i) != total {
@@ -83,7 +82,7 @@ fn decide(
 // Part `number` is written to its cell and to slot i, which becomes the most recent.
 fn keep(state: &mut [u8; STATE_OCTETS], i: usize, number: usize, part: &[u8], cells: &mut [u8])
     requires { ⌜ Room i number (now part) (now cells) ⌝ }
-    ensures { λ _. ⌜ Became (now (state .entry)) (now (state .exit)) (replaced true (recordIn (now (state .entry))) i (atFront (withPart (slotFrom (now (state .entry)) i) number (length (now (part .entry)))))) ⌝ }
+    ensures { λ _. ⌜ Became (now (state .entry)) (now (state .exit)) (replaced true (stateRecord (now (state .entry))) i (atFront (withPart (stateSlot (now (state .entry)) i) number (length (now (part .entry)))))) ⌝ }
     ensures { λ _. ⌜ now (cells .exit) ≡ placed (now (cells .entry)) (cellAt i number) (now (part .entry)) ⌝ }
 {
     cells::store(cells, i, number, part);
@@ -101,7 +100,7 @@ fn open(
     cells: &mut [u8],
 )
     requires { ⌜ Room i number (now part) (now cells) ⌝ }
-    ensures { λ _. ⌜ Became (now (state .entry)) (now (state .exit)) (replaced true (recordIn (now (state .entry))) i (atFront (withPart (opened key total) number (length (now (part .entry)))))) ⌝ }
+    ensures { λ _. ⌜ Became (now (state .entry)) (now (state .exit)) (replaced true (stateRecord (now (state .entry))) i (atFront (withPart (opened key total) number (length (now (part .entry)))))) ⌝ }
     ensures { λ _. ⌜ now (cells .exit) ≡ placed (now (cells .entry)) (cellAt i number) (now (part .entry)) ⌝ }
 {
     cells::store(cells, i, number, part);
@@ -119,10 +118,10 @@ fn finish<'a>(
     out: &mut [u8],
 ) -> Answer
     requires { ⌜ Room i number (now part) (now cells) ⌝ }
-    requires { ⌜ Whole (slotFrom (now state) i) i number (now part) (now cells) (now out) ⌝ }
-    ensures { λ r. ⌜ toldAnswer r ≡ answerOf (lengthIn (packetIn (recordIn (now (state .entry)) .kind) paged (slotFrom (now (state .entry)) i .total) (joinedOctets (now (cells .entry)) (slotFrom (now (state .entry)) i) i number (now (part .entry))))) ⌝ }
-    ensures { λ _. ⌜ now (out .exit) ≡ outputWith (packetIn (recordIn (now (state .entry)) .kind) paged (slotFrom (now (state .entry)) i .total) (joinedOctets (now (cells .entry)) (slotFrom (now (state .entry)) i) i number (now (part .entry)))) (now (out .entry)) ⌝ }
-    ensures { λ _. ⌜ Became (now (state .entry)) (now (state .exit)) (replaced false (recordIn (now (state .entry))) i freeSlot) ⌝ }
+    requires { ⌜ Whole (stateSlot (now state) i) i number (now part) (now cells) (now out) ⌝ }
+    ensures { λ r. ⌜ toldAnswer r ≡ answerOf (lengthIn (packetIn (stateRecord (now (state .entry)) .kind) paged (stateSlot (now (state .entry)) i .total) (joinedOctets (now (cells .entry)) (stateSlot (now (state .entry)) i) i number (now (part .entry))))) ⌝ }
+    ensures { λ _. ⌜ now (out .exit) ≡ outputWith (packetIn (stateRecord (now (state .entry)) .kind) paged (stateSlot (now (state .entry)) i .total) (joinedOctets (now (cells .entry)) (stateSlot (now (state .entry)) i) i number (now (part .entry)))) (now (out .entry)) ⌝ }
+    ensures { λ _. ⌜ Became (now (state .entry)) (now (state .exit)) (replaced false (stateRecord (now (state .entry))) i freeSlot) ⌝ }
 {
     let kind = kind_in(state);
     let total = octets::wide(total_at(state, i));
@@ -153,12 +152,11 @@ fn take_more(
     out: &mut [u8],
 ) -> Answer
     requires { ⌜ known (now state) ≡ true ⌝ }
-    requires { ⌜ Holds (recordIn (now state)) (recordIn (now state) .kind) i (slotFrom (now state) i) ⌝ }
+    requires { ⌜ Holds (stateRecord (now state)) (stateRecord (now state) .kind) i (stateSlot (now state) i) ⌝ }
     requires { ⌜ Room i number (now part) (now cells) ⌝ }
-    requires { ⌜ Whole (slotFrom (now state) i) i number (now part) (now cells) (now out) ⌝ }
+    requires { ⌜ Whole (stateSlot (now state) i) i number (now part) (now cells) (now out) ⌝ }
     ensures { λ _. ⌜ known (now (state .exit)) ≡ true ⌝ }
-    ensures { λ r. ⌜ after (toldAnswer r) (recordIn (now (state .exit))) (now (cells .exit)) (now (out .exit)) ≡ rule.acted (slotsIn (recordIn (now (state .entry)))) (rule.state (recordIn (now (state .entry))) (now (cells .entry)) (now (out .entry))) (anyKeyOf paged) total number (now (part .entry)) (stepAt (now (cells .entry)) total number (now (part .entry)) i (slotFrom (now (state .entry)) i)) ⌝ }
-    ensures { λ r. ⌜ Leaves (toldAnswer r) (now (state .entry)) (now (state .exit)) ⌝ }
+    ensures { λ r. ⌜ after (toldAnswer r) (stateRecord (now (state .exit))) (now (cells .exit)) (now (out .exit)) ≡ rule.acted (slotsIn (stateRecord (now (state .entry)))) (rule.state (stateRecord (now (state .entry))) (now (cells .entry)) (now (out .entry))) (anyKeyOf paged) total number (now (part .entry)) (stepAt (now (cells .entry)) total number (now (part .entry)) i (stateSlot (now (state .entry)) i)) ⌝ }
 {
     let step = decide(state, i, total, number, cells, part);
     match step {
@@ -190,12 +188,11 @@ pub(crate) fn take_part(
     out: &mut [u8],
 ) -> Answer
     requires { ⌜ known (now state) ≡ true ⌝ }
-    requires { ⌜ Seated (recordIn (now state)) (recordIn (now state) .kind) key o (slotFrom (now state) (o .slot)) ⌝ }
+    requires { ⌜ Seated (stateRecord (now state)) (stateRecord (now state) .kind) key o (stateSlot (now state) (o .slot)) ⌝ }
     requires { ⌜ Room (o .slot) number (now part) (now cells) ⌝ }
-    requires { ⌜ (o .held ≡ true → Whole (slotFrom (now state) (o .slot)) (o .slot) number (now part) (now cells) (now out)) ⌝ }
+    requires { ⌜ (o .held ≡ true → Whole (stateSlot (now state) (o .slot)) (o .slot) number (now part) (now cells) (now out)) ⌝ }
     ensures { λ _. ⌜ known (now (state .exit)) ≡ true ⌝ }
-    ensures { λ r. ⌜ after (toldAnswer r) (recordIn (now (state .exit))) (now (cells .exit)) (now (out .exit)) ≡ rule.takePart (slotsIn (recordIn (now (state .entry)))) (rule.state (recordIn (now (state .entry))) (now (cells .entry)) (now (out .entry))) key total number (now (part .entry)) ⌝ }
-    ensures { λ r. ⌜ Leaves (toldAnswer r) (now (state .entry)) (now (state .exit)) ⌝ }
+    ensures { λ r. ⌜ after (toldAnswer r) (stateRecord (now (state .exit))) (now (cells .exit)) (now (out .exit)) ≡ rule.takePart (slotsIn (stateRecord (now (state .entry)))) (rule.state (stateRecord (now (state .entry))) (now (cells .entry)) (now (out .entry))) key total number (now (part .entry)) ⌝ }
 {
     let i = o.slot;
     if o.held {

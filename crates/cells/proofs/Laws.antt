@@ -10,17 +10,17 @@ use borrow.Author.Tests.{eq-eqb, ne-eqb}
 use Rattle.octets.specs.Octets.{placed}
 use Rattle.octets.specs.Laws.{placed-start, placed-next}
 use Rattle.cells.specs.Cells.{joined}
-use Rattle.cells.specs.Handing.{cellStart, pieceOf}
+use Rattle.cells.specs.Handing.{cellStart, seriesPiece}
 use Rattle.cells.specs.CellLaws.{joined-more}
 
 -- ---- a part
 module _ (cells lengths : List ℕ) (s number : ℕ) (part : List ℕ) (k : ℕ) where
   -- the one that arrives, or the one that is held
-  pub piece-new : k ≡ number → part ≡ pieceOf cells lengths s number part k
+  pub piece-new : k ≡ number → part ≡ seriesPiece cells lengths s number part k
   piece-new e = rw (eq-eqb k number e)
 
   pub piece-held : (x : List ℕ) (n : ℕ) → (k ≡ number → ⊥) → n ≡ getD lengths (k - 1) 0 → x ≡ cellStart cells s k n
-      → x ≡ pieceOf cells lengths s number part k
+      → x ≡ seriesPiece cells lengths s number part k
   piece-held x n f e h = rw (ne-eqb k number f, ← e) h
 
 -- ---- writing

@@ -24,7 +24,7 @@ use Rattle.joined.specs.Fronts.{packetIn, frontOf, mostCounted, extended, sizeB
 use Rattle.joined.specs.Laws.{front-more, extended-more, none-told, none-kept, packet-inside, packet-fits, packet-told, packet-written}
 use Rattle.slots.specs.Slots.{mostSlots}
 use Rattle.cells.specs.Cells.{cellOctets, cellsSize, cellAt, joined}
-use Rattle.cells.specs.Handing.{Place, Reaches, reaches, hasCell, cellStart, afterStore, pieceOf, seriesOctets, joins, packetOf}
+use Rattle.cells.specs.Handing.{Place, Reaches, reaches, hasCell, cellStart, afterStore, seriesPiece, seriesOctets, joins, seriesPacket}
 use Rattle.cells.specs.CellLaws.{piece-length, joined-none, joined-more, joined-length, packet-of}
 use Rattle.cells.proofs.Laws.{piece-new, piece-held, start-written, Written, written-none, written-more}
 
@@ -78,7 +78,7 @@ cell-from cells r s k n at is h =
 -- the parts of a series: none yet, one more, all of them
 module _ (cells lengths : List ℕ) (s number : ℕ) (part : List ℕ) where
   abbrev piece : ℕ → List ℕ
-  piece = pieceOf cells lengths s number part
+  piece = seriesPiece cells lengths s number part
 
   pub front-none : (f : Front) → f ≡ frontOf [] → f ≡ frontOf (joined piece 0)
   front-none f e = e ∙ ap frontOf (sym (joined-none piece))
@@ -177,7 +177,7 @@ module _ (k : Kind) (paged : Bool) (cells lengths : List ℕ) (total s number : 
   octets = seriesOctets cells lengths total s number part
 
   abbrev due : Option (List ℕ)
-  due = packetOf k paged cells lengths total s number part (length d)
+  due = seriesPacket k paged cells lengths total s number part (length d)
 
   -- no series
   module _ (b : Bool) (told : b ≡ joins (length cells) (length lengths) total s (length part)) where

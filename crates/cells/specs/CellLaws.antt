@@ -19,7 +19,7 @@ use Rattle.types.specs.declared.Slot.{Slot}
 use Rattle.joined.specs.Fronts.{packetIn}
 use Rattle.slots.specs.Slots.{mostSlots, lengthAt}
 use Rattle.cells.specs.Cells.{cellOctets, cellsSize, cellAt, cellPart, joined, joinedOctets}
-use Rattle.cells.specs.Handing.{Place, Reaches, hasCell, cellStart, afterStore, pieceOf, seriesOctets, packetOf}
+use Rattle.cells.specs.Handing.{Place, Reaches, hasCell, cellStart, afterStore, seriesPiece, seriesOctets, seriesPacket}
 
 -- ---- octets put at a place: there they are read, elsewhere what stood there
 front-part : {A : Type 0} (t r : List A) (from size : ℕ) → from + size ≤ length t → take size (drop from (t ++ r)) ≡ take size (drop from t)
@@ -128,7 +128,7 @@ joined-pieces cells x s number part = refl
 
 -- a bound on the length of a part
 pub piece-length : (cells lengths : List ℕ) (s number : ℕ) (part : List ℕ) (k m : ℕ) → (k ≡ number → length part ≤ m) → getD lengths (k - 1) 0 ≤ m
-    → length (pieceOf cells lengths s number part k) ≤ m
+    → length (seriesPiece cells lengths s number part k) ≤ m
 piece-length cells lengths s number part k m u v = go (eqb k number) refl
   where
     go : (b : Bool) → eqb k number ≡ b → length (cond b part (cellStart cells s k (getD lengths (k - 1) 0))) ≤ m
@@ -149,7 +149,7 @@ module _ (s k : ℕ) (place : Place s k) (cells : List ℕ) (size : Reaches s ce
 
 pub packet-of : (k : Kind) (paged : Bool) (cells lengths : List ℕ) (total s number : ℕ) (part : List ℕ) (size : ℕ) → s < mostSlots → Reaches s cells
     → length lengths ≡ mostParts → total ≤ mostParts → length part ≤ cellOctets → length (seriesOctets cells lengths total s number part) ≤ size
-    → packetOf k paged cells lengths total s number part size ≡ packetIn k paged total (seriesOctets cells lengths total s number part)
+    → seriesPacket k paged cells lengths total s number part size ≡ packetIn k paged total (seriesOctets cells lengths total s number part)
 packet-of k paged cells lengths total s number part size l r n t p fits =
     rw (
       lt-ltb s mostSlots l,

@@ -39,19 +39,19 @@ afterStore cells s k part = cond (hasCell (length cells) s k) (afterPut cells (c
 
 -- ---- a series
 -- part k, from the lengths of its slot
-abbrev pub pieceOf : List ℕ → List ℕ → ℕ → ℕ → List ℕ → ℕ → List ℕ
-pieceOf cells lengths s number part k = cond (eqb k number) part (cellStart cells s k (getD lengths (k - 1) 0))
+abbrev pub seriesPiece : List ℕ → List ℕ → ℕ → ℕ → List ℕ → ℕ → List ℕ
+seriesPiece cells lengths s number part k = cond (eqb k number) part (cellStart cells s k (getD lengths (k - 1) 0))
 
 -- the octets that parts 1 to total join to
 abbrev pub seriesOctets : List ℕ → List ℕ → ℕ → ℕ → ℕ → List ℕ → List ℕ
-seriesOctets cells lengths total s number part = joined (pieceOf cells lengths s number part) total
+seriesOctets cells lengths total s number part = joined (seriesPiece cells lengths s number part) total
 
 -- whether cells of that size, so many lengths, a total of parts and an arriving part of that length make a series of slot s
 abbrev pub joins : ℕ → ℕ → ℕ → ℕ → ℕ → Bool
 joins size lengths total s part = reaches size s && eqb lengths mostParts && leb total mostParts && leb part cellOctets
 
 -- the packet that a series joins to, for a buffer of `size` octets: none if it makes no series, or the buffer has not as many octets as the parts
-abbrev pub packetOf : Kind → Bool → List ℕ → List ℕ → ℕ → ℕ → ℕ → List ℕ → ℕ → Option (List ℕ)
-packetOf k paged cells lengths total s number part size =
+abbrev pub seriesPacket : Kind → Bool → List ℕ → List ℕ → ℕ → ℕ → ℕ → List ℕ → ℕ → Option (List ℕ)
+seriesPacket k paged cells lengths total s number part size =
     cond (joins (length cells) (length lengths) total s (length part) && leb (length (seriesOctets cells lengths total s number part)) size)
     (packetIn k paged total (seriesOctets cells lengths total s number part)) none

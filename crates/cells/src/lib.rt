@@ -12,7 +12,7 @@ ghost use lib.ListN.{length};
 ghost use Rattle.octets.specs.Octets.{sameOctets};
 ghost use Rattle.arrival.specs.Message.{mostParts};
 ghost use Rattle.cells.specs.Cells.{cellAt};
-ghost use Rattle.cells.specs.Handing.{reaches, hasCell, Place, Reaches, afterStore, cellStart, pieceOf};
+ghost use Rattle.cells.specs.Handing.{reaches, hasCell, Place, Reaches, afterStore, cellStart, seriesPiece};
 
 // Whether a buffer of that size has the cells of slot s.
 pub(crate) fn reaches(size: usize, s: usize) -> bool
@@ -81,7 +81,7 @@ pub(crate) fn piece<'a>(
     requires { ⌜ Place s k ⌝ }
     requires { ⌜ length (now lengths) ≡ mostParts ⌝ }
     requires { ⌜ Reaches s (now cells) ⌝ }
-    ensures { λ r. ⌜ now r ≡ pieceOf (now (cells .entry)) (now (lengths .entry)) s number (now (part .entry)) k ⌝ }
+    ensures { λ r. ⌜ now r ≡ seriesPiece (now (cells .entry)) (now (lengths .entry)) s number (now (part .entry)) k ⌝ }
 {
     if k == number {
         return part;

@@ -16,7 +16,7 @@ ghost use Rattle.arrival.specs.Message.{mostParts};
 ghost use Rattle.joined.specs.Fronts.{packetIn, frontOf, toldSize, lengthIn, outputWith};
 ghost use Rattle.slots.specs.Slots.{mostSlots};
 ghost use Rattle.cells.specs.Cells.{cellOctets};
-ghost use Rattle.cells.specs.Handing.{Reaches, seriesOctets, joins, packetOf};
+ghost use Rattle.cells.specs.Handing.{Reaches, seriesOctets, joins, seriesPacket};
 
 // ---- the front
 // The front of what the parts of a series join to.
@@ -134,8 +134,8 @@ pub fn hand_out<'a>(
     part: &'a [u8],
     out: &mut [u8],
 ) -> Size
-    ensures { λ r. ⌜ toldSize r ≡ lengthIn (packetOf kind paged (now (cells .entry)) (now (lengths .entry)) total s number (now (part .entry)) (length (now (out .entry)))) ⌝ }
-    ensures { λ _. ⌜ now (out .exit) ≡ outputWith (packetOf kind paged (now (cells .entry)) (now (lengths .entry)) total s number (now (part .entry)) (length (now (out .entry)))) (now (out .entry)) ⌝ }
+    ensures { λ r. ⌜ toldSize r ≡ lengthIn (seriesPacket kind paged (now (cells .entry)) (now (lengths .entry)) total s number (now (part .entry)) (length (now (out .entry)))) ⌝ }
+    ensures { λ _. ⌜ now (out .exit) ≡ outputWith (seriesPacket kind paged (now (cells .entry)) (now (lengths .entry)) total s number (now (part .entry)) (length (now (out .entry)))) (now (out .entry)) ⌝ }
 {
     if !joins(cells.len(), lengths.len(), total, s, part.len()) {
         return Size::None;

@@ -18,7 +18,7 @@ use Rattle.slots.specs.Slots.{mostSlots, slotAt, used, isFree}
 use Rattle.formed.specs.Formed.{slotFormed, usedCount, isRank, ranked, recordFormed}
 use Rattle.formed.specs.Laws.{number-tells}
 use Rattle.formed.specs.Pieces.{slotHolds, slotsHold, pairApart, pairHolds, apartBefore, slotsApart, fiveOf, gapless}
-use Rattle.formed.specs.TestLaws.{formed-told}
+use Rattle.formed.specs.TestLaws.{record-formed-told}
 use Rattle.formed.proofs.Steps.{formedSteps}
 
 -- ---- a free slot beside others
@@ -187,6 +187,6 @@ whole-told r a b t l p q =
     (λ h. rw h (rw h at own)))
   where
     own : slotsHold (r .count) (r .kind) (r .slots) && slotsApart (r .count) (r .slots) && ranked (r .count) (r .slots) ≡ recordFormed (r .count) r
-    own = formed-told r _ _ _ t l refl refl refl
+    own = record-formed-told r _ _ _ t l refl refl refl
 
 pub ruleset recordSteps = (formedSteps, hold-starts, hold-pair, hold-slot, hold-ends, pair-within, pair-begun, pair-less, five-used, five-more, five-gapless, five-ranked, whole-told)

@@ -166,11 +166,11 @@ module _ (xs : List Slot) where
       → ok && (b && (ltb i m || eqb r 0)) ≡ allBelow (i + 1) (slotHolds n k xs)
   slot-more n m i r k ok b o e f g = all-more (slotHolds n k xs) i ok _ e (rw (o, f, g))
 
-pub formed-told : (r : Record) (a b c : Bool) → (not (eqb (r .count) 0) && not (ltb mostSlots (r .count))) ≡ true → length (r .slots) ≡ mostSlots
+pub record-formed-told : (r : Record) (a b c : Bool) → (not (eqb (r .count) 0) && not (ltb mostSlots (r .count))) ≡ true → length (r .slots) ≡ mostSlots
     → a ≡ slotsHold (r .count) (r .kind) (r .slots) → b ≡ slotsApart (r .count) (r .slots) → c ≡ ranked (r .count) (r .slots)
     → a && b && c ≡ recordFormed (r .count) r
 unfolding slotsFormed
-formed-told r a b c t l p q s =
+record-formed-told r a b c t l p q s =
     let each : ℕ → Bool = λ i. slotFormed (r .kind) (slotAt (r .slots) i) in
     let free : ℕ → Bool = λ i. ltb i (r .count) || isFree (slotAt (r .slots) i) in
     rw (eq-eqb (r .count) (r .count) refl, t, eq-eqb (length (r .slots)) mostSlots l, p, q, s, all-both mostSlots each free, both-apart (r .slots) (r .count))
@@ -218,5 +218,5 @@ pub ruleset testLaws = (
   not-formed,
   number-inside,
   ranked-told,
-  formed-told,
+  record-formed-told,
 )

@@ -16,7 +16,8 @@ use Rattle.slots.specs.Below.{allBelow, fault}
 use Rattle.slots.specs.BelowLaws.{fault-from, fault-more, fault-through, all-from, all-more, all-through}
 use Rattle.slots.specs.Slots.{mostSlots, freshRecord}
 use Rattle.layout.specs.Blocks.{laid}
-use Rattle.layout.specs.Layout.{stateSize, formatNumber, markFits, marksFit, slotMarksFit, known, kindOctet, slotOctets, octetsOf, left, makingState}
+use Rattle.layout.specs.Layout.{stateSize, formatNumber, markFits, marksFit, slotMarksFit, known, kindOctet, slotOctets, stateOctets, onState, makingState}
+use Rattle.layout.specs.OctetLaws.{octets-exact}
 use Rattle.layout.proofs.WriteSteps.{firstZero, zero-more, zero-all}
 
 -- ---- a test
@@ -49,19 +50,19 @@ module _ (s : List ℕ) where
   zero-ends t p e l f = f ∙ zero-all p s (omega arith) ∙ ap (λ (n : ℕ). replicate n 0) e
 
 pub fresh-written : (t : List ℕ) (kind : Kind) (k n : ℕ) → t ≡ replicate stateSize 0 → k ≡ kindOctet kind
-    → set (set (set t 0 1) 1 k) 2 n ≡ octetsOf (freshRecord n kind)
-unfolding octetsOf slotOctets laid
+    → set (set (set t 0 1) 1 k) 2 n ≡ stateOctets (freshRecord n kind)
+unfolding stateOctets slotOctets laid
 fresh-written t kind k n e f = rw (e, f)
 
 module _ (s : List ℕ) (n size : ℕ) (kind : Kind) (e : size ≡ length s) where
-  pub fresh-other : (size ≡ stateSize → ⊥) → left (refused 1) s ≡ makingState s n kind
+  pub fresh-other : (size ≡ stateSize → ⊥) → onState (refused 1) s ≡ makingState s n kind
   fresh-other z = rw (ne-eqb (length s) stateSize (λ f. z (e ∙ f)))
 
-  pub fresh-made : (t : List ℕ) → size ≡ stateSize → (not (eqb n 0) && not (ltb mostSlots n)) ≡ true → t ≡ octetsOf (freshRecord n kind)
-      → left (gives tt) t ≡ makingState s n kind
+  pub fresh-made : (t : List ℕ) → size ≡ stateSize → (not (eqb n 0) && not (ltb mostSlots n)) ≡ true → t ≡ stateOctets (freshRecord n kind)
+      → onState (gives tt) t ≡ makingState s n kind
   fresh-made t z b f = rw (eq-eqb (length s) stateSize (sym e ∙ z), b, f)
 
-  pub fresh-none : size ≡ stateSize → (not (eqb n 0) && not (ltb mostSlots n)) ≡ false → left (refused 25) s ≡ makingState s n kind
+  pub fresh-none : size ≡ stateSize → (not (eqb n 0) && not (ltb mostSlots n)) ≡ false → onState (refused 25) s ≡ makingState s n kind
   fresh-none z b = rw (eq-eqb (length s) stateSize (sym e ∙ z), b)
 
 pub size-told : (s : List ℕ) (size : ℕ) → size ≡ length s → size ≡ stateSize → length s ≡ stateSize
@@ -69,6 +70,7 @@ size-told s size e f = sym e ∙ f
 
 pub ruleset knownSteps = (
   needs,
+  octets-exact,
   fault-from,
   fault-more,
   mark-wrong,

@@ -13,28 +13,28 @@ use Rattle.types.specs.declared.Slot.{Slot}
 use Rattle.slots.specs.Slots.{mostSlots, sameKey, bears, isLeastRecent, slotsIn}
 use Rattle.slots.specs.BelowLaws.{fault-from, fault-more, fault-through}
 use Rattle.slots.specs.SearchLaws.{searchLaws}
-use Rattle.layout.specs.Layout.{recordIn, blankAt}
+use Rattle.layout.specs.Layout.{stateRecord, blankAt}
 use Rattle.layout.specs.Laws.{slots-long, rank-read, beats-read, total-read, key-read, length-read, length-none, mark-read, mark-none, mark-number, mark-number-none, lengths-read, lengths-none}
 
 -- ---- the record
 module _ (s : List ℕ) where
-  pub kind-command : getD s 1 0 ≡ 0 → Command ≡ recordIn s .kind
-  unfolding recordIn
+  pub kind-command : getD s 1 0 ≡ 0 → Command ≡ stateRecord s .kind
+  unfolding stateRecord
   kind-command e = rw (eq-eqb (getD s 1 0) 0 e)
 
-  pub kind-response : (getD s 1 0 ≡ 0 → ⊥) → Response ≡ recordIn s .kind
-  unfolding recordIn
+  pub kind-response : (getD s 1 0 ≡ 0 → ⊥) → Response ≡ stateRecord s .kind
+  unfolding stateRecord
   kind-response e = rw (ne-eqb (getD s 1 0) 0 e)
 
-  pub count-read : getD s 2 0 ≡ recordIn s .count
-  unfolding recordIn
+  pub count-read : getD s 2 0 ≡ stateRecord s .count
+  unfolding stateRecord
   count-read = refl
 
-  module _ (m n : ℕ) (e : m ≡ recordIn s .count) (f : n ≡ m) where
-    pub slots-most : mostSlots < n → mostSlots ≡ slotsIn (recordIn s)
+  module _ (m n : ℕ) (e : m ≡ stateRecord s .count) (f : n ≡ m) where
+    pub slots-most : mostSlots < n → mostSlots ≡ slotsIn (stateRecord s)
     slots-most l = rw (← e, ← f, lt-ltb mostSlots n l)
 
-    pub slots-own : n ≤ mostSlots → n ≡ slotsIn (recordIn s)
+    pub slots-own : n ≤ mostSlots → n ≡ slotsIn (stateRecord s)
     slots-own l = rw (← e, ← f, le-ltb mostSlots n l)
 
 -- ---- a blank slot

@@ -69,15 +69,15 @@ block-stored (suc n) (suc i) p v s m =
 
 -- blocks that were laid one behind the other
 pub data Sized : List (List ℕ) → Type 0 where
-  none : Sized []
-  one : {b : List ℕ} {bs : List (List ℕ)} → length b ≡ slotSize → Sized bs → Sized (b ∷ bs)
+  sized-none : Sized []
+  sized-more : {b : List ℕ} {bs : List (List ℕ)} → length b ≡ slotSize → Sized bs → Sized (b ∷ bs)
 
 pub laid-blocks : (bs : List (List ℕ)) → Sized bs → blocks (length bs) (laid bs) ≡ bs
 unfolding blocks laid
-laid-blocks [] none = refl
-laid-blocks (b ∷ bs) (one e h) = rw (take-at b (laid bs) slotSize e, drop-at b (laid bs) slotSize e, laid-blocks bs h)
+laid-blocks [] sized-none = refl
+laid-blocks (b ∷ bs) (sized-more e h) = rw (take-at b (laid bs) slotSize e, drop-at b (laid bs) slotSize e, laid-blocks bs h)
 
 pub laid-length : (bs : List (List ℕ)) → Sized bs → length (laid bs) ≡ slotSize * length bs
 unfolding laid
-laid-length [] none = omega arith
-laid-length (b ∷ bs) (one e h) = simp (length-append, laid-length bs h, e) (omega arith)
+laid-length [] sized-none = omega arith
+laid-length (b ∷ bs) (sized-more e h) = simp (length-append, laid-length bs h, e) (omega arith)

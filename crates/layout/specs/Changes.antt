@@ -9,25 +9,31 @@ use Rattle.types.specs.declared.Slot.{Slot}
 use Rattle.types.specs.declared.Record.{Record}
 use Rattle.slots.specs.Slots.{mostSlots, slotAt, withSlots}
 use Rattle.layout.specs.Blocks.{blocks}
-use Rattle.layout.specs.Layout.{headSize, recordIn, known}
+use Rattle.layout.specs.Layout.{stateSize, headSize, stateRecord, known, stateOctets}
 
 -- slot i of the record that the octets hold, and that record with y as slot i; where there is no slot i, the record as it is
-abbrev pub slotFrom : List ℕ → ℕ → Slot
-slotFrom s i = slotAt (recordIn s .slots) i
+abbrev pub stateSlot : List ℕ → ℕ → Slot
+stateSlot s i = slotAt (stateRecord s .slots) i
 
 abbrev pub withSlot : List ℕ → ℕ → Slot → Record
-withSlot s i y = withSlots (recordIn s) (set (recordIn s .slots) i y)
+withSlot s i y = withSlots (stateRecord s) (set (stateRecord s .slots) i y)
 
 -- t is s with x as the octets of slot i
 pub record Stored (s t : List ℕ) (i : ℕ) (x : List ℕ) : Type 0 where
   pub size : length t ≡ length s
   pub head : take headSize t ≡ take headSize s
-  pub own : blocks mostSlots (drop headSize t) ≡ set (blocks mostSlots (drop headSize s)) i x
+  pub block : blocks mostSlots (drop headSize t) ≡ set (blocks mostSlots (drop headSize s)) i x
 
 -- If s holds a record, t holds the record r. Of octets that hold none nothing is promised: no call gets past the test of them.
 pub record Became (s t : List ℕ) (r : Record) : Type 0 where
   pub still : known s ≡ true → known t ≡ true
-  pub now : known s ≡ true → recordIn t ≡ r
+  pub now : known s ≡ true → stateRecord t ≡ r
+
+-- What the type of a lent state says of its octets: there are as many as a state has, and if they are one, they are those of the record that it
+-- holds, so that no others hold it.
+pub record Exact (s : List ℕ) : Type 0 where
+  pub size : length s ≡ stateSize
+  pub back : known s ≡ true → stateOctets (stateRecord s) ≡ s
 
 -- a slot's octets with a number of two octets from place p on; with another sender, and with the three numbers of a key behind its width
 abbrev pub withPair : List ℕ → ℕ → ℕ → List ℕ
@@ -40,8 +46,8 @@ abbrev pub withNumbers : List ℕ → ℕ → ℕ → ℕ → List ℕ
 withNumbers x a b c = withPair (withPair (withPair x 7 a) 9 b) 11 c
 
 -- the slot with another key, and with another total
-abbrev pub withKey : Key → Slot → Slot
-withKey k x = record { rank = x .rank; beats = x .beats; key = k; total = x .total; lengths = x .lengths; held = x .held }
+abbrev pub slotWithKey : Key → Slot → Slot
+slotWithKey k x = record { rank = x .rank; beats = x .beats; key = k; total = x .total; lengths = x .lengths; held = x .held }
 
 abbrev pub withTotal : ℕ → Slot → Slot
 withTotal n x = record { rank = x .rank; beats = x .beats; key = x .key; total = n; lengths = x .lengths; held = x .held }

@@ -44,12 +44,12 @@ stateSize = 233
 abbrev pub headSize : ℕ
 headSize = 3
 
-abbrev pub place : ℕ → ℕ → ℕ
-place i p = headSize + slotSize * i + p
+abbrev pub octetPlace : ℕ → ℕ → ℕ
+octetPlace i p = headSize + slotSize * i + p
 
 -- the octets of slot i; past the last slot there are none
-abbrev pub own : ℕ → List ℕ → List ℕ
-own i s = getD (blocks mostSlots (drop headSize s)) i []
+abbrev pub slotBlock : ℕ → List ℕ → List ℕ
+slotBlock i s = getD (blocks mostSlots (drop headSize s)) i []
 
 -- ---- what octets say
 abbrev pub kindIn : ℕ → Kind
@@ -61,8 +61,8 @@ isMark q = not (eqb q 0)
 abbrev pub wideNumber : ℕ → ℕ → ℕ
 wideNumber high low = high * 65536 + low
 
-abbrev pub keyIn : List ℕ → Key
-keyIn h = record {
+abbrev pub slotKeyIn : List ℕ → Key
+slotKeyIn h = record {
   sender = wideNumber (numberOf (getD h 2 0) (getD h 3 0)) (numberOf (getD h 4 0) (getD h 5 0));
   width = getD h 6 0;
   reference = numberOf (getD h 7 0) (getD h 8 0);
@@ -71,14 +71,14 @@ keyIn h = record {
 }
 
 -- a slot of what is before its lengths, of its lengths and of its marks
-unfoldable pub slotOf : List ℕ → List ℕ → List ℕ → Slot
-slotOf h ns ms = record { rank = getD h 0 0; beats = getD h 1 0; key = keyIn h; total = getD h 13 0; lengths = ns; held = map isMark ms }
+unfoldable pub slotFields : List ℕ → List ℕ → List ℕ → Slot
+slotFields h ns ms = record { rank = getD h 0 0; beats = getD h 1 0; key = slotKeyIn h; total = getD h 13 0; lengths = ns; held = map isMark ms }
 
 unfoldable pub slotIn : List ℕ → Slot
-slotIn x = slotOf (take 14 x) (take 16 (drop 14 x)) (take 16 (drop 30 x))
+slotIn x = slotFields (take 14 x) (take 16 (drop 14 x)) (take 16 (drop 30 x))
 
-unfoldable pub recordIn : List ℕ → Record
-recordIn s = record { kind = kindIn (getD s 1 0); count = getD s 2 0; slots = map slotIn (blocks mostSlots (drop headSize s)) }
+unfoldable pub stateRecord : List ℕ → Record
+stateRecord s = record { kind = kindIn (getD s 1 0); count = getD s 2 0; slots = map slotIn (blocks mostSlots (drop headSize s)) }
 
 -- all of a slot's octets behind its rank are zero
 abbrev pub blankAt : List ℕ → ℕ → Bool
@@ -96,7 +96,7 @@ unfoldable pub marksFit : List ℕ → Bool
 marksFit x = allBelow mostParts (markFits x)
 
 abbrev pub slotMarksFit : List ℕ → ℕ → Bool
-slotMarksFit s i = marksFit (own i s)
+slotMarksFit s i = marksFit (slotBlock i s)
 
 abbrev pub headFits : List ℕ → Bool
 headFits s = eqb (length s) stateSize && eqb (getD s 0 0) formatNumber && leb (getD s 1 0) 1
@@ -122,23 +122,26 @@ abbrev pub keyOctets : Key → List ℕ → List ℕ
 keyOctets k o =
     withNumber (k .sender / 65536) (withNumber (k .sender % 65536) (k .width ∷ withNumber (k .reference) (withNumber (k .serial .0) (withNumber (k .identifier .0) o))))
 
-abbrev pub headOctets : Slot → List ℕ
-headOctets x = x .rank ∷ x .beats ∷ keyOctets (x .key) (x .total ∷ [])
+abbrev pub slotHead : Slot → List ℕ
+slotHead x = x .rank ∷ x .beats ∷ keyOctets (x .key) (x .total ∷ [])
 
 unfoldable pub slotOctets : Slot → List ℕ
-slotOctets x = headOctets x ++ (x .lengths ++ map markOctet (x .held))
+slotOctets x = slotHead x ++ (x .lengths ++ map markOctet (x .held))
 
-unfoldable pub octetsOf : Record → List ℕ
-octetsOf r = formatNumber ∷ kindOctet (r .kind) ∷ r .count ∷ laid (map slotOctets (r .slots))
+unfoldable pub stateOctets : Record → List ℕ
+stateOctets r = formatNumber ∷ kindOctet (r .kind) ∷ r .count ∷ laid (map slotOctets (r .slots))
 
--- ---- a fresh state
--- what making one comes to, and the octets that are left: 1 for octets of another length, 25 as for a record; a refusal leaves them as they were
-abbrev pub Left : Type 0
-Left = Outcome Unit × List ℕ
+-- ---- an outcome on a state
+-- an answer, and the octets as they are then
+pub record OnState (A : Type 0) : Type 0 where
+  pub answer : A
+  pub octets : List ℕ
 
-abbrev pub left : Outcome Unit → List ℕ → Left
-left answer s = (answer, s)
+abbrev pub onState : {A : Type 0} → A → List ℕ → OnState A
+onState a s = record { answer = a; octets = s }
 
-abbrev pub makingState : List ℕ → ℕ → Kind → Left
+-- what making a fresh one comes to: 1 for octets of another length, 25 as for a record; a refusal leaves them as they were
+abbrev pub makingState : List ℕ → ℕ → Kind → OnState (Outcome Unit)
 makingState s n k =
-    cond (eqb (length s) stateSize) (cond (isSlotNumber n) (left (gives tt) (octetsOf (freshRecord n k))) (left (refused 25) s)) (left (refused 1) s)
+    cond (eqb (length s) stateSize)
+    (cond (isSlotNumber n) (onState (gives tt) (stateOctets (freshRecord n k))) (onState (refused 25) s)) (onState (refused 1) s)

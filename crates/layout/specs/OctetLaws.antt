@@ -1,5 +1,5 @@
--- Every record that a value of the type can be is held by octets: `octetsOf` writes them, they are known, and `recordIn` reads the record back;
--- and octets that hold a record are those that `octetsOf` writes for it.
+-- Every record that a value of the type can be is held by octets: `stateOctets` writes them, they are known, and `stateRecord` reads the record back;
+-- and octets that hold a record are those that `stateOctets` writes for it.
 use Prim.Native.Nat.{ℕ, zero, suc, _+_, _*_, _/_, _%_, _≤_, _<_}
 use mathlib.Core.Path.{_≡_, refl, sym, ap, _∙_}
 use mathlib.Core.Bool.{Bool, true, false, _&&_}
@@ -19,8 +19,10 @@ use Rattle.arrival.specs.Message.{mostParts}
 use Rattle.slots.specs.Below.{allBelow}
 use Rattle.slots.specs.BelowLaws.{all-at, all-hold}
 use Rattle.slots.specs.Slots.{mostSlots, slotAt}
-use Rattle.layout.specs.Blocks.{slotSize, blocks, laid, Sized, none, one, laid-blocks, laid-length}
-use Rattle.layout.specs.Layout.{formatNumber, stateSize, headSize, isMark, wideNumber, kindIn, kindOctet, markOctet, headOctets, slotOf, slotIn, slotOctets, recordIn, octetsOf, markFits, marksFit, slotMarksFit, headFits, known}
+use Rattle.layout.specs.Blocks.{slotSize, blocks, laid, Sized, sized-none, sized-more, laid-blocks, laid-length}
+use Rattle.layout.specs.Layout.{formatNumber, stateSize, headSize, isMark, wideNumber, kindIn, kindOctet, markOctet, slotHead, slotFields, slotIn, slotOctets, stateRecord, stateOctets, markFits, marksFit, slotMarksFit, headFits, known}
+use Rattle.layout.specs.Changes.{Exact}
+use Rattle.layout.specs.Shapes.{ShapedSlot, Shapes, shaped-none, shaped-more, Shaped, shapes-from}
 use Rattle.layout.specs.Laws.{known-head, known-length, own-marks, take-most, pair-number, wide-pairs}
 
 -- ---- what a value of the type is: numbers that fit their fields, sixteen lengths and marks, five slots
@@ -41,6 +43,12 @@ pub record Typed (r : Record) : Type 0 where
   pub count : r .count < 256
   pub five : length (r .slots) ≡ mostSlots
   pub slots : (i : ℕ) → i < mostSlots → TypedSlot (slotAt (r .slots) i)
+
+pub typed-shaped : (r : Record) → Typed r → Shaped r
+typed-shaped r w =
+    let shape : (i : ℕ) → i < length (r .slots) → ShapedSlot (slotAt (r .slots) i) =
+    λ i l. let v = w .slots i (omega (arith, w .five)) in record { sixteen = v .sixteen; marks = v .marks } in
+    record { five = w .five; slots = shapes-from (r .slots) shape }
 
 -- ---- a slot
 marks-read : (bs : List Bool) → map isMark (map markOctet bs) ≡ bs
@@ -71,7 +79,7 @@ module _ (x : Slot) (sixteen : length (x .lengths) ≡ 16) (marks : length (x .h
   slot-marks = all-hold mostParts (markFits (slotOctets x)) (λ k l. ap (λ (q : ℕ). leb q 1) (sym (getD-drop 30 (slotOctets x) k 0) ∙ ap (λ (o : List ℕ). getD o k 0) slot-behind) ∙ mark-low (x .held) k)
 
   slot-read : slotIn (slotOctets x) ≡ x
-  unfolding slotIn slotOf slotOctets
+  unfolding slotIn slotFields slotOctets
   slot-read =
       let lengths : take 16 (x .lengths ++ map markOctet (x .held)) ≡ x .lengths = take-at (x .lengths) (map markOctet (x .held)) 16 sixteen in
       let held : map isMark (take 16 (drop 16 (x .lengths ++ map markOctet (x .held)))) ≡ x .held =
@@ -86,24 +94,18 @@ module _ (x : Slot) (sixteen : length (x .lengths) ≡ 16) (marks : length (x .h
       }
 
 -- ---- the slots
-abbrev Each : List Slot → Type 0
-Each xs = (i : ℕ) → i < length xs → TypedSlot (slotAt xs i)
+all-sized : (xs : List Slot) → Shapes xs → Sized (map slotOctets xs)
+all-sized [] shaped-none = sized-none
+all-sized (x ∷ xs) (shaped-more w h) = sized-more (slot-size x (w .sixteen) (w .marks)) (all-sized xs h)
 
-later : (x : Slot) (xs : List Slot) → Each (x ∷ xs) → Each xs
-later x xs h i l = h (suc i) (omega arith)
+all-read : (xs : List Slot) → Shapes xs → map slotIn (map slotOctets xs) ≡ xs
+all-read [] shaped-none = refl
+all-read (x ∷ xs) (shaped-more w h) = λ j. slot-read x (w .sixteen) (w .marks) j ∷ all-read xs h j
 
-all-sized : (xs : List Slot) → Each xs → Sized (map slotOctets xs)
-all-sized [] h = none
-all-sized (x ∷ xs) h = let w = h 0 (omega arith) in one (slot-size x (w .sixteen) (w .marks)) (all-sized xs (later x xs h))
-
-all-read : (xs : List Slot) → Each xs → map slotIn (map slotOctets xs) ≡ xs
-all-read [] h = refl
-all-read (x ∷ xs) h = let w = h 0 (omega arith) in λ j. slot-read x (w .sixteen) (w .marks) j ∷ all-read xs (later x xs h) j
-
-all-marks : (xs : List Slot) (i : ℕ) → i < length xs → Each xs → marksFit (getD (map slotOctets xs) i []) ≡ true
-all-marks [] i l h = absurd (omega arith)
-all-marks (x ∷ xs) zero l h = let w = h 0 (omega arith) in slot-marks x (w .sixteen) (w .marks)
-all-marks (x ∷ xs) (suc i) l h = all-marks xs i (omega arith) (later x xs h)
+all-marks : (xs : List Slot) (i : ℕ) → i < length xs → Shapes xs → marksFit (getD (map slotOctets xs) i []) ≡ true
+all-marks [] i l shaped-none = absurd (omega arith)
+all-marks (x ∷ xs) zero l (shaped-more w h) = slot-marks x (w .sixteen) (w .marks)
+all-marks (x ∷ xs) (suc i) l (shaped-more w h) = all-marks xs i (omega arith) h
 
 -- ---- the record
 kind-read : (k : Kind) → kindIn (kindOctet k) ≡ k
@@ -114,38 +116,38 @@ kind-low : (k : Kind) → leb (kindOctet k) 1 ≡ true
 kind-low Command = refl
 kind-low Response = refl
 
-module _ (r : Record) (w : Typed r) where
-  each : Each (r .slots)
-  each i l = w .slots i (omega (arith, w .five))
-
+module _ (r : Record) (w : Shaped r) where
   size : length (map slotOctets (r .slots)) ≡ mostSlots
   size = length-map (r .slots) slotOctets ∙ w .five
 
-  slots-laid : blocks mostSlots (drop headSize (octetsOf r)) ≡ map slotOctets (r .slots)
-  unfolding octetsOf
+  slots-laid : blocks mostSlots (drop headSize (stateOctets r)) ≡ map slotOctets (r .slots)
+  unfolding stateOctets
   slots-laid =
-      ap (λ (n : ℕ). blocks n (laid (map slotOctets (r .slots)))) (sym size) ∙ laid-blocks (map slotOctets (r .slots)) (all-sized (r .slots) each)
+      ap (λ (n : ℕ). blocks n (laid (map slotOctets (r .slots)))) (sym size) ∙ laid-blocks (map slotOctets (r .slots)) (all-sized (r .slots) (w .slots))
 
-  heads : record { kind = kindIn (getD (octetsOf r) 1 0); count = getD (octetsOf r) 2 0; slots = r .slots } ≡ r
-  unfolding octetsOf
+  heads : record { kind = kindIn (getD (stateOctets r) 1 0); count = getD (stateOctets r) 2 0; slots = r .slots } ≡ r
+  unfolding stateOctets
   heads = λ j. record { kind = kind-read (r .kind) j; count = r .count; slots = r .slots }
 
-  pub read-back : recordIn (octetsOf r) ≡ r
-  unfolding recordIn
-  read-back = rw (slots-laid, all-read (r .slots) each) heads
+  pub read-back : stateRecord (stateOctets r) ≡ r
+  unfolding stateRecord
+  read-back = rw (slots-laid, all-read (r .slots) (w .slots)) heads
 
-  head : headFits (octetsOf r) ≡ true
-  unfolding octetsOf
-  head =
+  pub octets-long : length (stateOctets r) ≡ stateSize
+  unfolding stateOctets
+  octets-long =
       let e : length (laid (map slotOctets (r .slots))) ≡ slotSize * mostSlots =
-      laid-length (map slotOctets (r .slots)) (all-sized (r .slots) each) ∙ ap (λ (n : ℕ). slotSize * n) size in
-      both-hold _ _ (both-hold _ _ (eq-eqb (suc (suc (suc (length (laid (map slotOctets (r .slots))))))) stateSize (omega arith)) refl) (kind-low (r .kind))
+      laid-length (map slotOctets (r .slots)) (all-sized (r .slots) (w .slots)) ∙ ap (λ (n : ℕ). slotSize * n) size in omega arith
 
-  pub known-octets : known (octetsOf r) ≡ true
+  head : headFits (stateOctets r) ≡ true
+  unfolding stateOctets
+  head = both-hold _ _ (both-hold _ _ (eq-eqb (length (stateOctets r)) stateSize octets-long) refl) (kind-low (r .kind))
+
+  pub known-octets : known (stateOctets r) ≡ true
   unfolding known
   known-octets =
-      both-hold (headFits (octetsOf r)) (allBelow mostSlots (slotMarksFit (octetsOf r))) head
-      (all-hold mostSlots (slotMarksFit (octetsOf r)) (λ i l. rw slots-laid (all-marks (r .slots) i (omega (arith, w .five)) each)))
+      both-hold (headFits (stateOctets r)) (allBelow mostSlots (slotMarksFit (stateOctets r))) head
+      (all-hold mostSlots (slotMarksFit (stateOctets r)) (λ i l. rw slots-laid (all-marks (r .slots) i (omega (arith, w .five)) (w .slots))))
 
 -- ---- each is an octet
 data Small : List ℕ → Type 0 where
@@ -182,21 +184,24 @@ small-slot x w =
     (with-two (x .key .identifier .0) (w .identifier) (with-one (x .total) (w .total)
     (small-both (x .lengths) (map markOctet (x .held)) (octets-small (x .lengths) (w .lengths)) (small-marks (x .held)))))))))))
 
+abbrev Each : List Slot → Type 0
+Each xs = (i : ℕ) → i < length xs → TypedSlot (slotAt xs i)
+
 small-slots : (xs : List Slot) → Each xs → Small (laid (map slotOctets xs))
 unfolding laid
 small-slots [] h = nothing
 small-slots (x ∷ xs) h =
-    small-both (slotOctets x) (laid (map slotOctets xs)) (small-slot x (h 0 (omega arith))) (small-slots xs (later x xs h))
+    small-both (slotOctets x) (laid (map slotOctets xs)) (small-slot x (h 0 (omega arith))) (small-slots xs (λ i l. h (suc i) (omega arith)))
 
 kind-small : (k : Kind) → kindOctet k < 256
 kind-small Command = omega arith
 kind-small Response = omega arith
 
-pub octets-octets : (r : Record) → Typed r → Octets (octetsOf r)
-unfolding octetsOf
+pub octets-octets : (r : Record) → Typed r → Octets (stateOctets r)
+unfolding stateOctets
 octets-octets r w =
-    small-octets (octetsOf r)
-    (with-one formatNumber (omega arith) (with-one (kindOctet (r .kind)) (kind-small (r .kind)) (with-one (r .count) (w .count) (small-slots (r .slots) (each r w)))))
+    small-octets (stateOctets r)
+    (with-one formatNumber (omega arith) (with-one (kindOctet (r .kind)) (kind-small (r .kind)) (with-one (r .count) (w .count) (small-slots (r .slots) (λ i l. w .slots i (omega (arith, w .five)))))))
 
 -- ---- and octets that hold a record are its own: no two states hold the same one
 octets-take : (n : ℕ) (o : List ℕ) → Octets o → Octets (take n o)
@@ -241,18 +246,18 @@ just (suc n) [] e = absurd (omega arith)
 just (suc n) (a ∷ x) e = next a (just n x (omega arith))
 
 -- what is before the lengths
-head-back : (h ns ms : List ℕ) → Just 14 h → Octets h → headOctets (slotOf h ns ms) ≡ h
-unfolding slotOf
+head-back : (h ns ms : List ℕ) → Just 14 h → Octets h → slotHead (slotFields h ns ms) ≡ h
+unfolding slotFields
 head-back hs ns ms (next a (next b (next c (next d (next e (next f (next g (next h (next i (next j (next k (next l (next m (next n end)))))))))))))) o =
     let low : numberOf e f < 65536 = omega (arith, o 4, o 5) in
     rw (top-back (numberOf c d) (numberOf e f) low, rest-back (numberOf c d) (numberOf e f) low, high-back c d (o 3), low-back c d (o 3), high-back e f (o 5), low-back e f (o 5), high-back h i (o 8), low-back h i (o 8), high-back j k (o 10), low-back j k (o 10), high-back l m (o 12), low-back l m (o 12))
 
 slot-back : (x : List ℕ) → length x ≡ slotSize → Octets x → marksFit x ≡ true → slotOctets (slotIn x) ≡ x
-unfolding slotIn slotOf slotOctets marksFit
+unfolding slotIn slotFields slotOctets marksFit
 slot-back x e o f =
     let ns : List ℕ = take 16 (drop 14 x) in
     let ms : List ℕ = take 16 (drop 30 x) in
-    let head : headOctets (slotOf (take 14 x) ns ms) ≡ take 14 x =
+    let head : slotHead (slotFields (take 14 x) ns ms) ≡ take 14 x =
     head-back (take 14 x) ns ms (just 14 (take 14 x) (length-take-le 14 x (omega arith))) (octets-take 14 x o) in
     let marks : map markOctet (map isMark ms) ≡ ms = marks-back ms (λ k l. low k (omega (arith, take-most 16 (drop 30 x)))) in
     let rest : ns ++ ms ≡ drop 14 x =
@@ -285,8 +290,8 @@ kind-back zero l = refl
 kind-back (suc zero) l = refl
 kind-back (suc (suc q)) l = absurd (omega arith)
 
-pub state-back : (s : List ℕ) → known s ≡ true → Octets s → octetsOf (recordIn s) ≡ s
-unfolding octetsOf recordIn
+pub state-back : (s : List ℕ) → known s ≡ true → Octets s → stateOctets (stateRecord s) ≡ s
+unfolding stateOctets stateRecord
 state-back s k o =
     let size : length s ≡ stateSize = known-length s k in
     let (h, kind) = both (eqb (length s) stateSize && eqb (getD s 0 0) formatNumber) (leb (getD s 1 0) 1) (known-head s k) in
@@ -294,3 +299,6 @@ state-back s k o =
     let slots : laid (map slotOctets (map slotIn (blocks mostSlots (drop headSize s)))) ≡ drop headSize s =
     slots-back mostSlots (drop headSize s) (simp length-drop (omega arith)) (octets-drop headSize s o) (λ i l. own-marks s k i l) in
     (λ j. sym format j ∷ kind-back (getD s 1 0) (leb-true (getD s 1 0) 1 kind) j ∷ getD s 2 0 ∷ slots j) ∙ front-back s (omega arith)
+
+pub octets-exact : (s : List ℕ) → length s ≡ stateSize → Octets s → Exact s
+octets-exact s e o = record { size = e; back = λ k. state-back s k o }

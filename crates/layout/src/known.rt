@@ -9,9 +9,11 @@ use types::SLOTS;
 use types::STATE_OCTETS;
 ghost use mathlib.Core.Path.{_≡_};
 ghost use lib.ListN.{length, replicate};
+ghost use Rattle.octets.specs.Octets.{Octets};
 ghost use Rattle.slots.specs.Below.{allBelow};
 ghost use Rattle.slots.specs.Slots.{mostSlots, freshRecord, toldMaking};
-ghost use Rattle.layout.specs.Layout.{stateSize, own, marksFit, slotMarksFit, known, kindOctet, octetsOf, left, makingState};
+ghost use Rattle.layout.specs.Layout.{stateSize, slotBlock, marksFit, slotMarksFit, known, kindOctet, stateOctets, onState, makingState};
+ghost use Rattle.layout.specs.Changes.{Exact};
 
 // How many octets there are. Of an array it is a constant, and a test of it is none at run time.
 fn length_of(s: &[u8]) -> usize
@@ -20,9 +22,22 @@ fn length_of(s: &[u8]) -> usize
     s.len()
 }
 
+fn each_small(s: &[u8]) -> usize
+    ensures { λ _. ⌜ Octets (now (s .entry)) ⌝ }
+{
+    length_of(s)
+}
+
+// What the type of a state says of its octets, told where a proof needs it. Nothing is done at run time.
+pub fn exact(state: &[u8; STATE_OCTETS])
+    ensures { λ _. ⌜ Exact (now (state .entry)) ⌝ }
+{
+    each_small(state);
+}
+
 // Whether each mark of slot i is 0 or 1. Faults are gathered in an octet, so that all marks are looked at at once.
 fn marks_fit(state: &[u8; STATE_OCTETS], i: usize) -> bool
-    ensures { λ r. ⌜ r ≡ marksFit (own i (now (state .entry))) ⌝ }
+    ensures { λ r. ⌜ r ≡ marksFit (slotBlock i (now (state .entry))) ⌝ }
 {
     let mut bad = 0;
     let mut k = 0;
@@ -56,7 +71,7 @@ pub fn is_known(state: &[u8; STATE_OCTETS]) -> bool
 }
 
 // ---- a fresh state
-fn kind_octet(kind: Kind) -> u8
+pub fn kind_octet(kind: Kind) -> u8
     ensures { λ r. ⌜ r ≡ kindOctet kind ⌝ }
 {
     match kind {
@@ -78,7 +93,7 @@ fn zero(state: &mut [u8; STATE_OCTETS])
 
 fn write_fresh(state: &mut [u8; STATE_OCTETS], kind: Kind, n: u8)
     requires { ⌜ length (now state) ≡ stateSize ⌝ }
-    ensures { λ _. ⌜ now (state .exit) ≡ octetsOf (freshRecord n kind) ⌝ }
+    ensures { λ _. ⌜ now (state .exit) ≡ stateOctets (freshRecord n kind) ⌝ }
 {
     zero(state);
     state[0] = 1;
@@ -88,7 +103,7 @@ fn write_fresh(state: &mut [u8; STATE_OCTETS], kind: Kind, n: u8)
 
 // A state with no series, for one kind of packets, with n slots, 1 to 5; any other number is refused, and the octets are as they were.
 pub fn fresh(state: &mut [u8; STATE_OCTETS], kind: Kind, n: u8) -> Making
-    ensures { λ r. ⌜ left (toldMaking r) (now (state .exit)) ≡ makingState (now (state .entry)) n kind ⌝ }
+    ensures { λ r. ⌜ onState (toldMaking r) (now (state .exit)) ≡ makingState (now (state .entry)) n kind ⌝ }
 {
     let size = length_of(state);
     if size != STATE_OCTETS {

@@ -11,7 +11,7 @@ ghost use mathlib.Core.Path.{_≡_};
 ghost use Prim.Native.Nat.{_<_};
 ghost use lib.ListN.{getD, set};
 ghost use Rattle.layout.specs.Blocks.{slotSize};
-ghost use Rattle.layout.specs.Layout.{own};
+ghost use Rattle.layout.specs.Layout.{slotBlock};
 ghost use Rattle.layout.specs.Changes.{Stored};
 
 // The octets before the first slot.
@@ -48,7 +48,7 @@ pub(crate) const MARKS: usize = 30;
 // Octet p of slot i, and 0 past the last slot.
 pub(crate) fn octet_at(state: &[u8; STATE_OCTETS], i: usize, p: usize) -> u8
     requires { ⌜ p < slotSize ⌝ }
-    ensures { λ r. ⌜ r ≡ getD (own i (now (state .entry))) p 0 ⌝ }
+    ensures { λ r. ⌜ r ≡ getD (slotBlock i (now (state .entry))) p 0 ⌝ }
 {
     if i < SLOTS {
         return state[HEAD + BLOCK * i + p];
@@ -59,7 +59,7 @@ pub(crate) fn octet_at(state: &[u8; STATE_OCTETS], i: usize, p: usize) -> u8
 // Octet p of slot i becomes v; past the last slot nothing does.
 pub(crate) fn set_octet(state: &mut [u8; STATE_OCTETS], i: usize, p: usize, v: u8)
     requires { ⌜ p < slotSize ⌝ }
-    ensures { λ _. ⌜ Stored (now (state .entry)) (now (state .exit)) i (set (own i (now (state .entry))) p v) ⌝ }
+    ensures { λ _. ⌜ Stored (now (state .entry)) (now (state .exit)) i (set (slotBlock i (now (state .entry))) p v) ⌝ }
 {
     if i < SLOTS {
         state[HEAD + BLOCK * i + p] = v;

@@ -28,12 +28,12 @@ ghost use lib.ListN.{getD, take, drop};
 ghost use Rattle.octets.specs.Octets.{numberOf};
 ghost use Rattle.slots.specs.Slots.{mostSlots, slotsIn};
 ghost use Rattle.layout.specs.Blocks.{slotSize};
-ghost use Rattle.layout.specs.Layout.{own, wideNumber, recordIn, blank, known, markOctet};
-ghost use Rattle.layout.specs.Changes.{slotFrom};
+ghost use Rattle.layout.specs.Layout.{slotBlock, wideNumber, stateRecord, blank, known, markOctet};
+ghost use Rattle.layout.specs.Changes.{stateSlot};
 
 // ---- the record
 pub fn kind_in(state: &[u8; STATE_OCTETS]) -> Kind
-    ensures { λ r. ⌜ r ≡ recordIn (now (state .entry)) .kind ⌝ }
+    ensures { λ r. ⌜ r ≡ stateRecord (now (state .entry)) .kind ⌝ }
 {
     let k = state[1];
     if k == 0 {
@@ -44,14 +44,14 @@ pub fn kind_in(state: &[u8; STATE_OCTETS]) -> Kind
 
 // The number of slots as the state says it.
 pub fn count_in(state: &[u8; STATE_OCTETS]) -> u8
-    ensures { λ r. ⌜ r ≡ recordIn (now (state .entry)) .count ⌝ }
+    ensures { λ r. ⌜ r ≡ stateRecord (now (state .entry)) .count ⌝ }
 {
     state[2]
 }
 
 // How many slots the record has.
 pub fn slots_in(state: &[u8; STATE_OCTETS]) -> usize
-    ensures { λ r. ⌜ (r ≡ slotsIn (recordIn (now (state .entry)))) × (r ≤ mostSlots) ⌝ }
+    ensures { λ r. ⌜ (r ≡ slotsIn (stateRecord (now (state .entry)))) × (r ≤ mostSlots) ⌝ }
 {
     let n = octets::wide(count_in(state));
     if SLOTS < n {
@@ -62,19 +62,19 @@ pub fn slots_in(state: &[u8; STATE_OCTETS]) -> usize
 
 // ---- a slot
 pub fn rank_at(state: &[u8; STATE_OCTETS], i: usize) -> u8
-    ensures { λ r. ⌜ r ≡ slotFrom (now (state .entry)) i .rank ⌝ }
+    ensures { λ r. ⌜ r ≡ stateSlot (now (state .entry)) i .rank ⌝ }
 {
     octet_at(state, i, RANK)
 }
 
 pub fn beats_at(state: &[u8; STATE_OCTETS], i: usize) -> u8
-    ensures { λ r. ⌜ r ≡ slotFrom (now (state .entry)) i .beats ⌝ }
+    ensures { λ r. ⌜ r ≡ stateSlot (now (state .entry)) i .beats ⌝ }
 {
     octet_at(state, i, BEATS)
 }
 
 pub fn total_at(state: &[u8; STATE_OCTETS], i: usize) -> u8
-    ensures { λ r. ⌜ r ≡ slotFrom (now (state .entry)) i .total ⌝ }
+    ensures { λ r. ⌜ r ≡ stateSlot (now (state .entry)) i .total ⌝ }
 {
     octet_at(state, i, TOTAL)
 }
@@ -82,7 +82,7 @@ pub fn total_at(state: &[u8; STATE_OCTETS], i: usize) -> u8
 // Two octets of slot i as a number.
 fn pair_at(state: &[u8; STATE_OCTETS], i: usize, p: usize) -> u16
     requires { ⌜ p + 1 < slotSize ⌝ }
-    ensures { λ r. ⌜ r ≡ numberOf (getD (own i (now (state .entry))) p 0) (getD (own i (now (state .entry))) (p + 1) 0) ⌝ }
+    ensures { λ r. ⌜ r ≡ numberOf (getD (slotBlock i (now (state .entry))) p 0) (getD (slotBlock i (now (state .entry))) (p + 1) 0) ⌝ }
 {
     octets::number_of(octet_at(state, i, p), octet_at(state, i, p + 1))
 }
@@ -100,7 +100,7 @@ fn wide_number(high: u16, low: u16) -> u32
 }
 
 pub fn key_at(state: &[u8; STATE_OCTETS], i: usize) -> Key
-    ensures { λ r. ⌜ r ≡ slotFrom (now (state .entry)) i .key ⌝ }
+    ensures { λ r. ⌜ r ≡ stateSlot (now (state .entry)) i .key ⌝ }
 {
     let high = pair_at(state, i, SENDER);
     let low = pair_at(state, i, SENDER_LOW);
@@ -120,7 +120,7 @@ pub fn key_at(state: &[u8; STATE_OCTETS], i: usize) -> Key
 
 // The length of the part at place k of slot i, from 0, and whether it is held.
 pub fn length_at(state: &[u8; STATE_OCTETS], i: usize, k: usize) -> u8
-    ensures { λ r. ⌜ r ≡ getD (slotFrom (now (state .entry)) i .lengths) k 0 ⌝ }
+    ensures { λ r. ⌜ r ≡ getD (stateSlot (now (state .entry)) i .lengths) k 0 ⌝ }
 {
     if k < PARTS {
         return octet_at(state, i, LENGTHS + k);
@@ -129,7 +129,7 @@ pub fn length_at(state: &[u8; STATE_OCTETS], i: usize, k: usize) -> u8
 }
 
 pub fn mark_at(state: &[u8; STATE_OCTETS], i: usize, k: usize) -> bool
-    ensures { λ r. ⌜ r ≡ getD (slotFrom (now (state .entry)) i .held) k false ⌝ }
+    ensures { λ r. ⌜ r ≡ getD (stateSlot (now (state .entry)) i .held) k false ⌝ }
 {
     if k < PARTS {
         return octet_at(state, i, MARKS + k) != 0;
@@ -139,7 +139,7 @@ pub fn mark_at(state: &[u8; STATE_OCTETS], i: usize, k: usize) -> bool
 
 // The mark as a number, to count it: if the octets are a state, 1 for a part that is held, and 0 for one that is not.
 pub fn mark_number(state: &[u8; STATE_OCTETS], i: usize, k: usize) -> u8
-    ensures { λ r. ⌜ (known (now (state .entry)) ≡ true → r ≡ markOctet (getD (slotFrom (now (state .entry)) i .held) k false)) ⌝ }
+    ensures { λ r. ⌜ (known (now (state .entry)) ≡ true → r ≡ markOctet (getD (stateSlot (now (state .entry)) i .held) k false)) ⌝ }
 {
     if k < PARTS {
         return octet_at(state, i, MARKS + k);
@@ -149,7 +149,7 @@ pub fn mark_number(state: &[u8; STATE_OCTETS], i: usize, k: usize) -> u8
 
 // Whether all octets of slot i but its rank are zero. Faults are gathered in an octet, so that all are looked at at once.
 pub fn is_blank(state: &[u8; STATE_OCTETS], i: usize) -> bool
-    ensures { λ r. ⌜ r ≡ blank (own i (now (state .entry))) ⌝ }
+    ensures { λ r. ⌜ r ≡ blank (slotBlock i (now (state .entry))) ⌝ }
 {
     let mut bad = 0;
     let mut p = 0;
@@ -170,7 +170,7 @@ fn part<'a>(s: &'a [u8], from: usize, n: usize) -> &'a [u8]
 
 // The lengths of all parts of slot i, where they are.
 pub fn lengths_at<'a>(state: &'a [u8; STATE_OCTETS], i: usize) -> &'a [u8]
-    ensures { λ r. ⌜ now r ≡ slotFrom (now (state .entry)) i .lengths ⌝ }
+    ensures { λ r. ⌜ now r ≡ stateSlot (now (state .entry)) i .lengths ⌝ }
 {
     if i < SLOTS {
         return part(state, HEAD + BLOCK * i + LENGTHS, PARTS);

@@ -21,30 +21,30 @@ ghost use Prim.Native.Nat.{_+_, _/_, _%_, _<_};
 ghost use Rattle.slots.specs.Slots.{opened, freeSlot, atRank, atCount, atFront};
 ghost use Rattle.slots.specs.Found.{withPartIn};
 ghost use Rattle.layout.specs.Blocks.{slotSize};
-ghost use Rattle.layout.specs.Layout.{own};
-ghost use Rattle.layout.specs.Changes.{slotFrom, withSlot, Stored, Became, withPair, withSender, withNumbers, withKey, withTotal};
+ghost use Rattle.layout.specs.Layout.{slotBlock};
+ghost use Rattle.layout.specs.Changes.{stateSlot, withSlot, Stored, Became, withPair, withSender, withNumbers, slotWithKey, withTotal};
 
 pub fn set_rank(state: &mut [u8; STATE_OCTETS], i: usize, r: u8)
-    ensures { λ _. ⌜ Became (now (state .entry)) (now (state .exit)) (withSlot (now (state .entry)) i (atRank r (slotFrom (now (state .entry)) i))) ⌝ }
+    ensures { λ _. ⌜ Became (now (state .entry)) (now (state .exit)) (withSlot (now (state .entry)) i (atRank r (stateSlot (now (state .entry)) i))) ⌝ }
 {
     set_octet(state, i, RANK, r);
 }
 
 pub fn set_beats(state: &mut [u8; STATE_OCTETS], i: usize, b: u8)
-    ensures { λ _. ⌜ Became (now (state .entry)) (now (state .exit)) (withSlot (now (state .entry)) i (atCount b (slotFrom (now (state .entry)) i))) ⌝ }
+    ensures { λ _. ⌜ Became (now (state .entry)) (now (state .exit)) (withSlot (now (state .entry)) i (atCount b (stateSlot (now (state .entry)) i))) ⌝ }
 {
     set_octet(state, i, BEATS, b);
 }
 
 fn set_total(state: &mut [u8; STATE_OCTETS], i: usize, n: u8)
-    ensures { λ _. ⌜ Became (now (state .entry)) (now (state .exit)) (withSlot (now (state .entry)) i (withTotal n (slotFrom (now (state .entry)) i))) ⌝ }
+    ensures { λ _. ⌜ Became (now (state .entry)) (now (state .exit)) (withSlot (now (state .entry)) i (withTotal n (stateSlot (now (state .entry)) i))) ⌝ }
 {
     set_octet(state, i, TOTAL, n);
 }
 
 // Slot i is at the front: the most recent, and no beat has come since.
 pub fn set_front(state: &mut [u8; STATE_OCTETS], i: usize)
-    ensures { λ _. ⌜ Became (now (state .entry)) (now (state .exit)) (withSlot (now (state .entry)) i (atFront (slotFrom (now (state .entry)) i))) ⌝ }
+    ensures { λ _. ⌜ Became (now (state .entry)) (now (state .exit)) (withSlot (now (state .entry)) i (atFront (stateSlot (now (state .entry)) i))) ⌝ }
 {
     set_rank(state, i, 1);
     set_beats(state, i, 0);
@@ -52,7 +52,7 @@ pub fn set_front(state: &mut [u8; STATE_OCTETS], i: usize)
 
 // Slot i has part `number`, of n octets; if no part has that number, it is as it was.
 pub fn put_part(state: &mut [u8; STATE_OCTETS], i: usize, number: usize, n: u8)
-    ensures { λ _. ⌜ Became (now (state .entry)) (now (state .exit)) (withSlot (now (state .entry)) i (withPartIn (slotFrom (now (state .entry)) i) number n)) ⌝ }
+    ensures { λ _. ⌜ Became (now (state .entry)) (now (state .exit)) (withSlot (now (state .entry)) i (withPartIn (stateSlot (now (state .entry)) i) number n)) ⌝ }
 {
     if number == 0 {
         return;
@@ -69,19 +69,20 @@ pub fn put_part(state: &mut [u8; STATE_OCTETS], i: usize, number: usize, n: u8)
 // Two octets of slot i become a number.
 fn set_pair(state: &mut [u8; STATE_OCTETS], i: usize, p: usize, n: u16)
     requires { ⌜ p + 1 < slotSize ⌝ }
-    ensures { λ _. ⌜ Stored (now (state .entry)) (now (state .exit)) i (withPair (own i (now (state .entry))) p n) ⌝ }
+    ensures { λ _. ⌜ Stored (now (state .entry)) (now (state .exit)) i (withPair (slotBlock i (now (state .entry))) p n) ⌝ }
 {
     set_octet(state, i, p, (n / 256) as u8);
     set_octet(state, i, p + 1, (n % 256) as u8);
 }
 
-fn high(n: u32) -> u16
+// A number of 32 bits as two of 16.
+pub fn high(n: u32) -> u16
     ensures { λ r. ⌜ r ≡ n / 65536 ⌝ }
 {
     (n / 65536) as u16
 }
 
-fn low(n: u32) -> u16
+pub fn low(n: u32) -> u16
     ensures { λ r. ⌜ r ≡ n % 65536 ⌝ }
 {
     (n % 65536) as u16
@@ -89,7 +90,7 @@ fn low(n: u32) -> u16
 
 // The sender of slot i, and the three numbers of its key behind the width.
 fn put_sender(state: &mut [u8; STATE_OCTETS], i: usize, sender: u32)
-    ensures { λ _. ⌜ Stored (now (state .entry)) (now (state .exit)) i (withSender (own i (now (state .entry))) sender) ⌝ }
+    ensures { λ _. ⌜ Stored (now (state .entry)) (now (state .exit)) i (withSender (slotBlock i (now (state .entry))) sender) ⌝ }
 {
     set_pair(state, i, SENDER, high(sender));
     set_pair(state, i, SENDER_LOW, low(sender));
@@ -102,7 +103,7 @@ fn put_numbers(
     serial: u16,
     identifier: u16,
 )
-    ensures { λ _. ⌜ Stored (now (state .entry)) (now (state .exit)) i (withNumbers (own i (now (state .entry))) reference serial identifier) ⌝ }
+    ensures { λ _. ⌜ Stored (now (state .entry)) (now (state .exit)) i (withNumbers (slotBlock i (now (state .entry))) reference serial identifier) ⌝ }
 {
     set_pair(state, i, REFERENCE, reference);
     set_pair(state, i, SERIAL, serial);
@@ -110,7 +111,7 @@ fn put_numbers(
 }
 
 fn put_key(state: &mut [u8; STATE_OCTETS], i: usize, key: Key)
-    ensures { λ _. ⌜ Became (now (state .entry)) (now (state .exit)) (withSlot (now (state .entry)) i (withKey key (slotFrom (now (state .entry)) i))) ⌝ }
+    ensures { λ _. ⌜ Became (now (state .entry)) (now (state .exit)) (withSlot (now (state .entry)) i (slotWithKey key (stateSlot (now (state .entry)) i))) ⌝ }
 {
     put_sender(state, i, key.sender);
     set_octet(state, i, WIDTH, key.width);

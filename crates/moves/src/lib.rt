@@ -14,12 +14,12 @@ ghost use mathlib.Core.Bool.{true, false};
 ghost use Rattle.slots.specs.Slots.{opened, freeSlot, atFront, withSlots, slotsIn};
 ghost use Rattle.slots.specs.Found.{withPartIn};
 ghost use Rattle.slots.specs.Order.{rankAfter, firstRanked, replaced};
-ghost use Rattle.layout.specs.Layout.{recordIn};
-ghost use Rattle.layout.specs.Changes.{slotFrom, Became};
+ghost use Rattle.layout.specs.Layout.{stateRecord};
+ghost use Rattle.layout.specs.Changes.{stateSlot, Became};
 
 // Every slot is at its rank once slot i has come to the front, or was freed.
 fn rerank(state: &mut [u8; STATE_OCTETS], i: usize, front: bool)
-    ensures { λ _. ⌜ Became (now (state .entry)) (now (state .exit)) (withSlots (recordIn (now (state .entry))) (firstRanked (rankAfter front (slotFrom (now (state .entry)) i .rank)) (slotsIn (recordIn (now (state .entry)))) (recordIn (now (state .entry)) .slots))) ⌝ }
+    ensures { λ _. ⌜ Became (now (state .entry)) (now (state .exit)) (withSlots (stateRecord (now (state .entry))) (firstRanked (rankAfter front (stateSlot (now (state .entry)) i .rank)) (slotsIn (stateRecord (now (state .entry)))) (stateRecord (now (state .entry)) .slots))) ⌝ }
 {
     let n = slots_in(state);
     let r = rank_at(state, i);
@@ -33,7 +33,7 @@ fn rerank(state: &mut [u8; STATE_OCTETS], i: usize, front: bool)
 
 // Slot i comes to the front.
 pub fn to_front(state: &mut [u8; STATE_OCTETS], i: usize)
-    ensures { λ _. ⌜ Became (now (state .entry)) (now (state .exit)) (replaced true (recordIn (now (state .entry))) i (atFront (slotFrom (now (state .entry)) i))) ⌝ }
+    ensures { λ _. ⌜ Became (now (state .entry)) (now (state .exit)) (replaced true (stateRecord (now (state .entry))) i (atFront (stateSlot (now (state .entry)) i))) ⌝ }
 {
     let n = slots_in(state);
     if n <= i {
@@ -45,7 +45,7 @@ pub fn to_front(state: &mut [u8; STATE_OCTETS], i: usize)
 
 // Slot i has part `number`, of m octets, and comes to the front.
 pub fn keep(state: &mut [u8; STATE_OCTETS], i: usize, number: usize, m: u8)
-    ensures { λ _. ⌜ Became (now (state .entry)) (now (state .exit)) (replaced true (recordIn (now (state .entry))) i (atFront (withPartIn (slotFrom (now (state .entry)) i) number m))) ⌝ }
+    ensures { λ _. ⌜ Became (now (state .entry)) (now (state .exit)) (replaced true (stateRecord (now (state .entry))) i (atFront (withPartIn (stateSlot (now (state .entry)) i) number m))) ⌝ }
 {
     let n = slots_in(state);
     if n <= i {
@@ -58,7 +58,7 @@ pub fn keep(state: &mut [u8; STATE_OCTETS], i: usize, number: usize, m: u8)
 
 // A new series takes slot i, with its part `number`, of m octets, and comes to the front.
 pub fn keep_new(state: &mut [u8; STATE_OCTETS], i: usize, key: Key, total: u8, number: usize, m: u8)
-    ensures { λ _. ⌜ Became (now (state .entry)) (now (state .exit)) (replaced true (recordIn (now (state .entry))) i (atFront (withPartIn (opened key total) number m))) ⌝ }
+    ensures { λ _. ⌜ Became (now (state .entry)) (now (state .exit)) (replaced true (stateRecord (now (state .entry))) i (atFront (withPartIn (opened key total) number m))) ⌝ }
 {
     let n = slots_in(state);
     if n <= i {
@@ -72,7 +72,7 @@ pub fn keep_new(state: &mut [u8; STATE_OCTETS], i: usize, key: Key, total: u8, n
 
 // Slot i is freed; the others keep their order, without a gap.
 pub fn free(state: &mut [u8; STATE_OCTETS], i: usize)
-    ensures { λ _. ⌜ Became (now (state .entry)) (now (state .exit)) (replaced false (recordIn (now (state .entry))) i freeSlot) ⌝ }
+    ensures { λ _. ⌜ Became (now (state .entry)) (now (state .exit)) (replaced false (stateRecord (now (state .entry))) i freeSlot) ⌝ }
 {
     let n = slots_in(state);
     if n <= i {

@@ -26,7 +26,7 @@ use Rattle.slots.specs.BelowLaws.{all-up-to}
 use Rattle.slots.specs.Found.{newSeatIn, seat-found, seat-not-found}
 use Rattle.slots.specs.Slots.{isFree, findIn, opened, heldAt, lengthAt, withPart, toFront, withSlots, slotsIn}
 use Rattle.cells.specs.Cells.{cellAt, cellPart, joinedOctets}
-use Rattle.cells.specs.Handing.{Place, Reaches, hasCell, cellStart, afterStore, packetOf}
+use Rattle.cells.specs.Handing.{Place, Reaches, hasCell, cellStart, afterStore, seriesPacket}
 use Rattle.series.specs.Taking.{State, Answer, After, toldAnswer, kept, packet, refusedBy, state, after, handOut, completes, Step, refuses, repeats, keeps, finishes, stepNew, step, acted, takePart}
 use Rattle.series.specs.Deciding.{allWith, hasWith, stepAt, anyKeyOf, answerOf, Room, Whole, Seated}
 use Rattle.cells.specs.CellLaws.{cell-part, joined-pieces, store-in, same-in, packet-of}
@@ -106,16 +106,16 @@ module _ (k : Kind) (paged : Bool) (octets output : List ℕ) (fits : length oct
 -- the parts of a slot x with the one that arrives, where t is the total as a length
 module _ (x : Slot) (i number : ℕ) (octets cells output : List ℕ) (room : Room i number octets cells) (w : Whole x i number octets cells output)
     (t : ℕ) (is : t ≡ x .total) (k : Kind) (paged : Bool) where
-  same-packet : packetOf k paged cells (x .lengths) t i number octets (length output) ≡ packetIn k paged (x .total) (joinedOctets cells x i number octets)
+  same-packet : seriesPacket k paged cells (x .lengths) t i number octets (length output) ≡ packetIn k paged (x .total) (joinedOctets cells x i number octets)
   same-packet =
       rw is (packet-of k paged cells (x .lengths) (x .total) i number octets (length output) (room .place .0) (room .size) (w .lengths) (w .most) (room .short)
       (rw (joined-pieces cells x i number octets) (w .joined)) ∙ rw (joined-pieces cells x i number octets))
 
-  pub whole-answer : (z : Size) (a : Answer) → toldSize z ≡ lengthIn (packetOf k paged cells (x .lengths) t i number octets (length output))
+  pub whole-answer : (z : Size) (a : Answer) → toldSize z ≡ lengthIn (seriesPacket k paged cells (x .lengths) t i number octets (length output))
       → a ≡ answerOf (toldSize z) → a ≡ answerOf (lengthIn (packetIn k paged (x .total) (joinedOctets cells x i number octets)))
   whole-answer z a e h = rw (← same-packet, ← e) h
 
-  pub whole-output : (o : List ℕ) → o ≡ outputWith (packetOf k paged cells (x .lengths) t i number octets (length output)) output
+  pub whole-output : (o : List ℕ) → o ≡ outputWith (seriesPacket k paged cells (x .lengths) t i number octets (length output)) output
       → o ≡ outputWith (packetIn k paged (x .total) (joinedOctets cells x i number octets)) output
   whole-output o e = rw (← same-packet) e
 

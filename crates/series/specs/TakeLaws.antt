@@ -34,7 +34,7 @@ use Rattle.slots.specs.FrontLaws.{FoundIn, hit-in, miss-in, find-in?}
 use Rattle.formed.specs.Laws.{UsedSlot, array-holds, formed-tells, slot-tells}
 use Rattle.series.specs.PartLaws.{total-bounds}
 use Rattle.cells.specs.Cells.{cellOctets, cellsSize}
-use Rattle.cells.specs.Handing.{pieceOf, seriesOctets}
+use Rattle.cells.specs.Handing.{seriesPiece, seriesOctets}
 use Rattle.cells.specs.CellLaws.{piece-length, joined-none, joined-length, joined-pieces}
 use Rattle.series.specs.Taking.{state, unfit}
 use Rattle.series.specs.KeepLaws.{Sound, short}
@@ -70,16 +70,16 @@ module _ (x : Slot) (formed : (i : ℕ) → i < mostParts → partFormed x i ≡
   -- "Packet: at most 2,142 octets": with a part that fits its place, no more octets join
   pub joined-fits : (key : Key) (cells : List ℕ) (s number : ℕ) (part : List ℕ) (total : ℕ) → lengthFits key number (length part) ≡ true
       → total ≤ mostParts → length (seriesOctets cells (x .lengths) total s number part) ≤ mostOctets
-  joined-fits key cells s number part zero fits l = rw (joined-none (pieceOf cells (x .lengths) s number part)) (omega arith)
+  joined-fits key cells s number part zero fits l = rw (joined-none (seriesPiece cells (x .lengths) s number part)) (omega arith)
   joined-fits key cells s number part (suc n) fits l =
       omega (
         arith,
-        joined-length (pieceOf cells (x .lengths) s number part) cellOctets 2 n
+        joined-length (seriesPiece cells (x .lengths) s number part) cellOctets 2 n
             (omega (arith, each 1 (omega arith) (omega arith)))
             (λ k u v. omega (arith, each k u (omega arith), most-cell k)),
       )
     where
-      each : (k : ℕ) → 0 < k → k ≤ mostParts → length (pieceOf cells (x .lengths) s number part k) ≤ most k
+      each : (k : ℕ) → 0 < k → k ≤ mostParts → length (seriesPiece cells (x .lengths) s number part k) ≤ most k
       each k u v =
           piece-length cells (x .lengths) s number part k (most k)
           (λ e. rw e (fits-most key number (length part) fits))

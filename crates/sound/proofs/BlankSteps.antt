@@ -16,16 +16,16 @@ use Rattle.slots.specs.Below.{allBelow}
 use Rattle.slots.specs.BelowLaws.{all-at, all-hold}
 use Rattle.formed.specs.Formed.{markAt, sizeAt, zeroKey, zeroPart, allZero}
 use Rattle.formed.specs.TestLaws.{agree}
-use Rattle.layout.specs.Layout.{own, wideNumber, blankAt, blank}
-use Rattle.layout.specs.Changes.{slotFrom}
+use Rattle.layout.specs.Layout.{slotBlock, wideNumber, blankAt, blank}
+use Rattle.layout.specs.Changes.{stateSlot}
 use Rattle.layout.specs.Laws.{beats-read, total-read, key-read, length-read, mark-read}
 
 module _ (s : List ℕ) (i : ℕ) where
   abbrev octet : ℕ → ℕ
-  octet p = getD (own i s) p 0
+  octet p = getD (slotBlock i s) p 0
 
   abbrev x : Slot
-  x = slotFrom s i
+  x = stateSlot s i
 
   -- ---- its fields by their octets
   key-is : record { sender = wideNumber (numberOf (octet 2) (octet 3)) (numberOf (octet 4) (octet 5)); width = octet 6; reference = numberOf (octet 7) (octet 8); serial = record { 0 = numberOf (octet 9) (octet 10) }; identifier = record { 0 = numberOf (octet 11) (octet 12) } } ≡ x .key
@@ -153,8 +153,8 @@ module _ (s : List ℕ) (i : ℕ) where
             let g : p + 1 ≡ 30 + (p - 29) = omega arith in
             ap octet g ∙ mark-zero (p - 29) (omega arith)
 
-  pub blank-told : (b : Bool) → b ≡ blank (own i s) → b ≡ allZero x
+  pub blank-told : (b : Bool) → b ≡ blank (slotBlock i s) → b ≡ allZero x
   blank-told b e =
-      e ∙ agree (blank (own i s)) (allZero x)
-      (λ h. fields-zero (λ p l. eqb-true (octet (p + 1)) 0 (all-at 45 (blankAt (own i s)) h p l)))
-      (λ h. all-hold 45 (blankAt (own i s)) (λ p l. eq-eqb (octet (p + 1)) 0 (octets-zero (zero-tells h) p l)))
+      e ∙ agree (blank (slotBlock i s)) (allZero x)
+      (λ h. fields-zero (λ p l. eqb-true (octet (p + 1)) 0 (all-at 45 (blankAt (slotBlock i s)) h p l)))
+      (λ h. all-hold 45 (blankAt (slotBlock i s)) (λ p l. eq-eqb (octet (p + 1)) 0 (octets-zero (zero-tells h) p l)))

@@ -17,10 +17,10 @@ use Rattle.slots.specs.BelowLaws.{all-hold}
 use Rattle.slots.specs.Slots.{mostSlots, slotAt, used}
 use Rattle.formed.specs.Formed.{markAt, ranked, recordFormed}
 use Rattle.formed.specs.Pieces.{slotsHold, pairApart, pairHolds, apartBefore, slotsApart}
-use Rattle.formed.specs.TestLaws.{testLaws, formed-told, not-formed}
-use Rattle.layout.specs.Layout.{recordIn, known, markOctet}
-use Rattle.layout.specs.Changes.{slotFrom}
-use Rattle.layout.specs.Laws.{slots-long, lengths-sixteen, marks-sixteen}
+use Rattle.formed.specs.TestLaws.{testLaws, record-formed-told, not-formed}
+use Rattle.layout.specs.Layout.{stateRecord, known, markOctet}
+use Rattle.layout.specs.Changes.{stateSlot}
+use Rattle.layout.specs.Laws.{slots-long, known-length, lengths-sixteen, marks-sixteen}
 use Rattle.sound.proofs.BlankSteps.{blank-told}
 
 -- ---- what is read
@@ -28,7 +28,7 @@ pub one-counted : (a b : Bool) (m : ℕ) → m ≡ cond a 1 0 → a ≡ b → m 
 one-counted a b m e f = rw (e, f)
 
 -- a mark of a state, counted as its number
-pub mark-told : (s : List ℕ) (i k q : ℕ) → (known s ≡ true → q ≡ markOctet (getD (slotFrom s i .held) k false)) → known s ≡ true → q ≡ cond (markAt (slotFrom s i) k) 1 0
+pub mark-told : (s : List ℕ) (i k q : ℕ) → (known s ≡ true → q ≡ markOctet (getD (stateSlot s i .held) k false)) → known s ≡ true → q ≡ cond (markAt (stateSlot s i) k) 1 0
 mark-told s i k q h w = h w
 
 module _ (b : Bool) (m q k : ℕ) (e : q ≡ cond b 1 0) (l : m ≤ k) where
@@ -61,32 +61,33 @@ free-apart xs i r z e = sym (all-hold i (pairHolds xs i) (λ j l. beside (slotAt
 
 -- ---- the state
 -- its number of slots, read and widened
-module _ (s : List ℕ) (n c : ℕ) (wide : n ≡ c) (read : c ≡ recordIn s .count) where
-  number : n ≡ recordIn s .count
+module _ (s : List ℕ) (n c : ℕ) (wide : n ≡ c) (read : c ≡ stateRecord s .count) where
+  number : n ≡ stateRecord s .count
   number = wide ∙ read
 
-  pub record-told : (k : Kind) (a b d : Bool) → k ≡ recordIn s .kind → (not (eqb n 0) && not (ltb mostSlots n)) ≡ true
-      → a ≡ slotsHold n k (recordIn s .slots) → b ≡ slotsApart n (recordIn s .slots) → d ≡ ranked n (recordIn s .slots)
-      → a && b && d ≡ recordFormed (recordIn s .count) (recordIn s)
-  record-told k a b d o t p q r = formed-told (recordIn s) a b d (rw number at t) (slots-long s) (rw (number, o) at p) (rw number at q) (rw number at r)
+  pub record-told : (k : Kind) (a b d : Bool) → k ≡ stateRecord s .kind → (not (eqb n 0) && not (ltb mostSlots n)) ≡ true
+      → a ≡ slotsHold n k (stateRecord s .slots) → b ≡ slotsApart n (stateRecord s .slots) → d ≡ ranked n (stateRecord s .slots)
+      → a && b && d ≡ recordFormed (stateRecord s .count) (stateRecord s)
+  record-told k a b d o t p q r = record-formed-told (stateRecord s) a b d (rw number at t) (slots-long s) (rw (number, o) at p) (rw number at q) (rw number at r)
 
-  pub record-none : (not (eqb n 0) && not (ltb mostSlots n)) ≡ false → false ≡ recordFormed (recordIn s .count) (recordIn s)
-  record-none t = not-formed (recordIn s) (rw number at t)
+  pub record-none : (not (eqb n 0) && not (ltb mostSlots n)) ≡ false → false ≡ recordFormed (stateRecord s .count) (stateRecord s)
+  record-none t = not-formed (stateRecord s) (rw number at t)
 
 module _ (s : List ℕ) (b : Bool) (is : b ≡ known s) where
   pub is-state : b ≡ true → known s ≡ true
   is-state t = sym is ∙ t
 
-  pub state-told : (c : Bool) → b ≡ true → c ≡ recordFormed (recordIn s .count) (recordIn s) → c ≡ known s && recordFormed (recordIn s .count) (recordIn s)
+  pub state-told : (c : Bool) → b ≡ true → c ≡ recordFormed (stateRecord s .count) (stateRecord s) → c ≡ known s && recordFormed (stateRecord s .count) (stateRecord s)
   state-told c t e = rw (← is, t) e
 
-  pub no-state : b ≡ false → false ≡ known s && recordFormed (recordIn s .count) (recordIn s)
+  pub no-state : b ≡ false → false ≡ known s && recordFormed (stateRecord s .count) (stateRecord s)
   no-state t = rw (← is, t)
 
 pub ruleset steps = (
   needs,
   testLaws,
   slots-long,
+  known-length,
   lengths-sixteen,
   marks-sixteen,
   one-counted,

@@ -1,5 +1,6 @@
 // The beat on a state in place (02 [6]): each series is one beat older, and those that have reached the limit are dropped.
 use crate::state_formed;
+use layout::known::exact;
 use layout::read::beats_at;
 use layout::read::rank_at;
 use layout::write::clear;
@@ -12,15 +13,15 @@ ghost use mathlib.Core.Path.{_≡_};
 ghost use mathlib.Core.Bool.{true};
 ghost use Prim.Native.Nat.{_<_};
 ghost use Rattle.slots.specs.Slots.{withSlots};
-ghost use Rattle.layout.specs.Layout.{recordIn, known};
-ghost use Rattle.layout.specs.Changes.{slotFrom, withSlot, Became};
-ghost use Rattle.beats.specs.Beats.{raised, reached, afterBeat, slotsAfterBeat, droppedBy, beaten, toldBeating};
-ghost use Rattle.sound.specs.Card.{beatIn, Leaves};
+ghost use Rattle.layout.specs.Layout.{stateRecord, known, onState};
+ghost use Rattle.layout.specs.Changes.{stateSlot, withSlot, Became};
+ghost use Rattle.beats.specs.Beats.{raised, reached, afterBeat, slotsAfterBeat, droppedBy, toldBeating};
+ghost use Rattle.sound.specs.Card.{beatIn};
 
 // Whether one beat more drops the series of slot i. One less than the limit is looked at, so that no count is raised past an octet.
 fn is_dead(state: &[u8; STATE_OCTETS], i: usize, limit: u8) -> bool
     requires { ⌜ 0 < limit ⌝ }
-    ensures { λ r. ⌜ r ≡ reached limit (raised (slotFrom (now (state .entry)) i)) ⌝ }
+    ensures { λ r. ⌜ r ≡ reached limit (raised (stateSlot (now (state .entry)) i)) ⌝ }
 {
     let last = limit - 1;
     let r = rank_at(state, i);
@@ -32,8 +33,8 @@ fn is_dead(state: &[u8; STATE_OCTETS], i: usize, limit: u8) -> bool
 // changes: what is dropped is less recent than all that stays.
 fn beat_slot(state: &mut [u8; STATE_OCTETS], i: usize, limit: u8) -> bool
     requires { ⌜ 0 < limit ⌝ }
-    ensures { λ r. ⌜ r ≡ reached limit (raised (slotFrom (now (state .entry)) i)) ⌝ }
-    ensures { λ _. ⌜ Became (now (state .entry)) (now (state .exit)) (withSlot (now (state .entry)) i (afterBeat limit (slotFrom (now (state .entry)) i))) ⌝ }
+    ensures { λ r. ⌜ r ≡ reached limit (raised (stateSlot (now (state .entry)) i)) ⌝ }
+    ensures { λ _. ⌜ Became (now (state .entry)) (now (state .exit)) (withSlot (now (state .entry)) i (afterBeat limit (stateSlot (now (state .entry)) i))) ⌝ }
 {
     let dead = is_dead(state, i, limit);
     if dead {
@@ -53,8 +54,8 @@ fn beat_slot(state: &mut [u8; STATE_OCTETS], i: usize, limit: u8) -> bool
 fn beat_slots(state: &mut [u8; STATE_OCTETS], limit: u8) -> u8
     requires { ⌜ 0 < limit ⌝ }
     requires { ⌜ known (now state) ≡ true ⌝ }
-    ensures { λ r. ⌜ r ≡ droppedBy limit (recordIn (now (state .entry)) .slots) ⌝ }
-    ensures { λ _. ⌜ recordIn (now (state .exit)) ≡ withSlots (recordIn (now (state .entry))) (slotsAfterBeat limit (recordIn (now (state .entry)) .slots)) ⌝ }
+    ensures { λ r. ⌜ r ≡ droppedBy limit (stateRecord (now (state .entry)) .slots) ⌝ }
+    ensures { λ _. ⌜ stateRecord (now (state .exit)) ≡ withSlots (stateRecord (now (state .entry))) (slotsAfterBeat limit (stateRecord (now (state .entry)) .slots)) ⌝ }
     ensures { λ _. ⌜ known (now (state .exit)) ≡ true ⌝ }
 {
     let mut dropped = 0;
@@ -68,15 +69,16 @@ fn beat_slots(state: &mut [u8; STATE_OCTETS], limit: u8) -> u8
 
 // A beat on a state: every series is one beat older, and each that has reached the limit is dropped. A refusal leaves every octet as it was.
 pub fn beat(state: &mut [u8; STATE_OCTETS], limit: u8) -> Beating
-    ensures { λ r. ⌜ beaten (toldBeating r) (recordIn (now (state .exit))) ≡ beatIn (now (state .entry)) limit ⌝ }
-    ensures { λ _. ⌜ known (now (state .exit)) ≡ known (now (state .entry)) ⌝ }
-    ensures { λ r. ⌜ Leaves (toldBeating r) (now (state .entry)) (now (state .exit)) ⌝ }
+    ensures { λ r. ⌜ onState (toldBeating r) (now (state .exit)) ≡ beatIn (now (state .entry)) limit ⌝ }
 {
+    exact(state);
     if !state_formed(state) {
         return Beating::Refused(Refusal::BufferOrRecord);
     }
     if limit == 0 {
         return Beating::Refused(Refusal::BeatLimit);
     }
-    Beating::Dropped(beat_slots(state, limit))
+    let dropped = beat_slots(state, limit);
+    exact(state);
+    Beating::Dropped(dropped)
 }

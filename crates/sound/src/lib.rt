@@ -30,15 +30,15 @@ ghost use Rattle.slots.specs.Below.{allBelow};
 ghost use Rattle.slots.specs.Slots.{mostSlots, used, sameKey};
 ghost use Rattle.formed.specs.Formed.{markAt, partFormed, heldCount, usedFormed, slotFormed, countAhead, usedCount, isRank, ranked, recordFormed};
 ghost use Rattle.formed.specs.Pieces.{slotsHold, pairApart, apartBefore, slotsApart};
-ghost use Rattle.layout.specs.Layout.{recordIn, known};
-ghost use Rattle.layout.specs.Changes.{slotFrom};
+ghost use Rattle.layout.specs.Layout.{stateRecord, known};
+ghost use Rattle.layout.specs.Changes.{stateSlot};
 
 // ---- a slot
 // Whether each part of a used slot is as it can be. The bounds of a length depend on the key alone, but for part 1, which is looked at by
 // itself: if it is missing its length is 0, which fits. Faults are gathered in an octet, and no test leaves the loop, so that all parts are looked
 // at at once.
 fn parts_formed(state: &[u8; STATE_OCTETS], i: usize) -> bool
-    ensures { λ r. ⌜ r ≡ allBelow mostParts (partFormed (slotFrom (now (state .entry)) i)) ⌝ }
+    ensures { λ r. ⌜ r ≡ allBelow mostParts (partFormed (stateSlot (now (state .entry)) i)) ⌝ }
 {
     let key = key_at(state, i);
     let low = fewest(key);
@@ -61,7 +61,7 @@ fn parts_formed(state: &[u8; STATE_OCTETS], i: usize) -> bool
 // The mark of the part at place k, to count it: in a state it is 0 or 1.
 fn mark_in(state: &[u8; STATE_OCTETS], i: usize, k: usize) -> u8
     requires { ⌜ known (now state) ≡ true ⌝ }
-    ensures { λ r. ⌜ r ≡ cond (markAt (slotFrom (now (state .entry)) i) k) 1 0 ⌝ }
+    ensures { λ r. ⌜ r ≡ cond (markAt (stateSlot (now (state .entry)) i) k) 1 0 ⌝ }
 {
     mark_number(state, i, k)
 }
@@ -69,7 +69,7 @@ fn mark_in(state: &[u8; STATE_OCTETS], i: usize, k: usize) -> u8
 // How many parts slot i holds.
 fn held_count(state: &[u8; STATE_OCTETS], i: usize) -> u8
     requires { ⌜ known (now state) ≡ true ⌝ }
-    ensures { λ r. ⌜ r ≡ heldCount (slotFrom (now (state .entry)) i) ⌝ }
+    ensures { λ r. ⌜ r ≡ heldCount (stateSlot (now (state .entry)) i) ⌝ }
 {
     let mut m = 0;
     let mut k = 0;
@@ -83,7 +83,7 @@ fn held_count(state: &[u8; STATE_OCTETS], i: usize) -> u8
 // Whether a used slot is well formed: key, total and parts, at least one held and not all, and its count of beats.
 fn used_formed(state: &[u8; STATE_OCTETS], i: usize, kind: Kind) -> bool
     requires { ⌜ known (now state) ≡ true ⌝ }
-    ensures { λ r. ⌜ r ≡ usedFormed kind (slotFrom (now (state .entry)) i) ⌝ }
+    ensures { λ r. ⌜ r ≡ usedFormed kind (stateSlot (now (state .entry)) i) ⌝ }
 {
     let key = key_at(state, i);
     let total = total_at(state, i);
@@ -97,7 +97,7 @@ fn used_formed(state: &[u8; STATE_OCTETS], i: usize, kind: Kind) -> bool
 fn slot_formed(state: &[u8; STATE_OCTETS], i: usize, kind: Kind) -> bool
     requires { ⌜ known (now state) ≡ true ⌝ }
     requires { ⌜ i < mostSlots ⌝ }
-    ensures { λ r. ⌜ r ≡ slotFormed kind (slotFrom (now (state .entry)) i) ⌝ }
+    ensures { λ r. ⌜ r ≡ slotFormed kind (stateSlot (now (state .entry)) i) ⌝ }
 {
     let free = rank_at(state, i) == 0;
     if free {
@@ -109,7 +109,7 @@ fn slot_formed(state: &[u8; STATE_OCTETS], i: usize, kind: Kind) -> bool
 // Whether each slot is well formed, and those past the first n are free.
 fn slots_formed(state: &[u8; STATE_OCTETS], n: usize, kind: Kind) -> bool
     requires { ⌜ known (now state) ≡ true ⌝ }
-    ensures { λ r. ⌜ r ≡ slotsHold n kind (recordIn (now (state .entry)) .slots) ⌝ }
+    ensures { λ r. ⌜ r ≡ slotsHold n kind (stateRecord (now (state .entry)) .slots) ⌝ }
 {
     let mut ok = true;
     let mut i = 0;
@@ -124,7 +124,7 @@ fn slots_formed(state: &[u8; STATE_OCTETS], n: usize, kind: Kind) -> bool
 // ---- two slots
 // Whether two slots are used with one key.
 fn key_twice(state: &[u8; STATE_OCTETS], i: usize, j: usize) -> bool
-    ensures { λ r. ⌜ r ≡ (used (slotFrom (now (state .entry)) i) && used (slotFrom (now (state .entry)) j) && sameKey (slotFrom (now (state .entry)) i .key) (slotFrom (now (state .entry)) j .key)) ⌝ }
+    ensures { λ r. ⌜ r ≡ (used (stateSlot (now (state .entry)) i) && used (stateSlot (now (state .entry)) j) && sameKey (stateSlot (now (state .entry)) i .key) (stateSlot (now (state .entry)) j .key)) ⌝ }
 {
     let p = rank_at(state, i);
     let q = rank_at(state, j);
@@ -136,7 +136,7 @@ fn key_twice(state: &[u8; STATE_OCTETS], i: usize, j: usize) -> bool
 
 // Whether slot i is used and has a higher count of beats than slot j, a less recent one.
 fn count_ahead(state: &[u8; STATE_OCTETS], i: usize, j: usize) -> bool
-    ensures { λ r. ⌜ r ≡ countAhead (slotFrom (now (state .entry)) i) (slotFrom (now (state .entry)) j) ⌝ }
+    ensures { λ r. ⌜ r ≡ countAhead (stateSlot (now (state .entry)) i) (stateSlot (now (state .entry)) j) ⌝ }
 {
     let p = rank_at(state, i);
     let q = rank_at(state, j);
@@ -147,7 +147,7 @@ fn count_ahead(state: &[u8; STATE_OCTETS], i: usize, j: usize) -> bool
 
 // Whether two slots can be in one record: they are not used with one key, and the more recent one has no higher count of beats.
 fn pair_apart(state: &[u8; STATE_OCTETS], i: usize, j: usize) -> bool
-    ensures { λ r. ⌜ r ≡ pairApart (slotFrom (now (state .entry)) i) (slotFrom (now (state .entry)) j) ⌝ }
+    ensures { λ r. ⌜ r ≡ pairApart (stateSlot (now (state .entry)) i) (stateSlot (now (state .entry)) j) ⌝ }
 {
     let twice = key_twice(state, i, j);
     let ahead = count_ahead(state, i, j);
@@ -158,7 +158,7 @@ fn pair_apart(state: &[u8; STATE_OCTETS], i: usize, j: usize) -> bool
 // ---- the slots
 // Whether slot i can be in one record with each slot before it. A free one always can.
 fn apart_before(state: &[u8; STATE_OCTETS], i: usize) -> bool
-    ensures { λ r. ⌜ r ≡ apartBefore (recordIn (now (state .entry)) .slots) i ⌝ }
+    ensures { λ r. ⌜ r ≡ apartBefore (stateRecord (now (state .entry)) .slots) i ⌝ }
 {
     let free = rank_at(state, i) == 0;
     if free {
@@ -175,7 +175,7 @@ fn apart_before(state: &[u8; STATE_OCTETS], i: usize) -> bool
 
 // Whether no two used slots of the first n have one key, and none has a higher count of beats than a less recent one.
 fn slots_apart(state: &[u8; STATE_OCTETS], n: usize) -> bool
-    ensures { λ r. ⌜ r ≡ slotsApart n (recordIn (now (state .entry)) .slots) ⌝ }
+    ensures { λ r. ⌜ r ≡ slotsApart n (stateRecord (now (state .entry)) .slots) ⌝ }
 {
     let mut ok = true;
     let mut i = 0;
@@ -189,7 +189,7 @@ fn slots_apart(state: &[u8; STATE_OCTETS], n: usize) -> bool
 // How many of the first n slots are used.
 fn used_count(state: &[u8; STATE_OCTETS], n: usize) -> u8
     requires { ⌜ n ≤ mostSlots ⌝ }
-    ensures { λ r. ⌜ (r ≡ usedCount n (recordIn (now (state .entry)) .slots)) × (r ≤ mostSlots) ⌝ }
+    ensures { λ r. ⌜ (r ≡ usedCount n (stateRecord (now (state .entry)) .slots)) × (r ≤ mostSlots) ⌝ }
 {
     let mut m = 0;
     let mut i = 0;
@@ -203,7 +203,7 @@ fn used_count(state: &[u8; STATE_OCTETS], n: usize) -> u8
 
 // Whether one of the first n slots has the rank r.
 fn is_rank(state: &[u8; STATE_OCTETS], n: usize, r: u8) -> bool
-    ensures { λ b. ⌜ b ≡ isRank n (recordIn (now (state .entry)) .slots) r ⌝ }
+    ensures { λ b. ⌜ b ≡ isRank n (stateRecord (now (state .entry)) .slots) r ⌝ }
 {
     let mut any = false;
     let mut i = 0;
@@ -217,7 +217,7 @@ fn is_rank(state: &[u8; STATE_OCTETS], n: usize, r: u8) -> bool
 // Whether the used slots of the first n are ranked 1, 2, .. without a gap: of each rank up to their number there is a slot.
 fn ranked(state: &[u8; STATE_OCTETS], n: usize) -> bool
     requires { ⌜ n ≤ mostSlots ⌝ }
-    ensures { λ r. ⌜ r ≡ ranked n (recordIn (now (state .entry)) .slots) ⌝ }
+    ensures { λ r. ⌜ r ≡ ranked n (stateRecord (now (state .entry)) .slots) ⌝ }
 {
     let m = used_count(state, n);
     let mut ok = true;
@@ -233,7 +233,7 @@ fn ranked(state: &[u8; STATE_OCTETS], n: usize) -> bool
 // Whether the record that the octets hold is well formed: it has 1 to 5 slots, and they are as they can be.
 fn record_formed(state: &[u8; STATE_OCTETS]) -> bool
     requires { ⌜ known (now state) ≡ true ⌝ }
-    ensures { λ r. ⌜ r ≡ recordFormed (recordIn (now (state .entry)) .count) (recordIn (now (state .entry))) ⌝ }
+    ensures { λ r. ⌜ r ≡ recordFormed (stateRecord (now (state .entry)) .count) (stateRecord (now (state .entry))) ⌝ }
 {
     let kind = kind_in(state);
     let n = octets::wide(count_in(state));
@@ -245,7 +245,7 @@ fn record_formed(state: &[u8; STATE_OCTETS]) -> bool
 
 // Whether the octets are a state, and the record that it holds is one that the library can have made.
 pub fn state_formed(state: &[u8; STATE_OCTETS]) -> bool
-    ensures { λ r. ⌜ r ≡ (known (now (state .entry)) && recordFormed (recordIn (now (state .entry)) .count) (recordIn (now (state .entry)))) ⌝ }
+    ensures { λ r. ⌜ r ≡ (known (now (state .entry)) && recordFormed (stateRecord (now (state .entry)) .count) (stateRecord (now (state .entry)))) ⌝ }
 {
     if is_known(state) {
         return record_formed(state);

@@ -7,18 +7,10 @@ use Rattle.card.proofs.take_arrival.Tie as tie
 take-part-requires : tie.Need-take-part-requires
 take-part-requires c κs = (search takeSteps, (search takeSteps, (search takeSteps, λ h. search takeSteps)))
 
-returns : tie.Need-returns
-returns c = (search takeSteps, (search takeSteps, search takeSteps))
-
-returns-2 : tie.Need-returns-2
-returns-2 c = (search takeSteps, (search takeSteps, search takeSteps))
-
-returns-3 : tie.Need-returns-3
-returns-3 c = (search takeSteps, (search takeSteps, search takeSteps))
-
 pub take-arrival-spec : {M : Type 1} → statement M
 take-arrival-spec =
     tie.close
     (tie.spec (λ c. search takeSteps) (λ c. search takeSteps) (λ c κs. search takeSteps) (λ c κs. search takeSteps)
     (λ c κs. search takeSteps) (λ c. search takeSteps) (λ c κs. search takeSteps) (λ c κs. search takeSteps) (λ c. search takeSteps)
-    take-part-requires returns (λ c. search takeSteps) returns-2 (λ c. search takeSteps) (λ c. search takeSteps) returns-3)
+    take-part-requires (λ c. search takeSteps) (λ c. search takeSteps) (λ c. search takeSteps) (λ c. search takeSteps)
+    (λ c. search takeSteps) (λ c. search takeSteps))

@@ -6,5 +6,5 @@ use Rattle.card.proofs.unfit.Tie as tie
 pub unfit-spec : {M : Type 1} → statement M
 unfit-spec =
     tie.close
-    (tie.spec (λ c κs. search takeSteps) (λ c κs. search takeSteps) (λ c κs. search takeSteps) (λ c. search takeSteps)
-    (λ c. search takeSteps))
+    (tie.spec (λ c κs. search takeSteps) (λ c κs. search takeSteps) (λ c κs. search takeSteps) (λ c κs. search takeSteps)
+    (λ c. search takeSteps) (λ c. search takeSteps))

@@ -2,13 +2,13 @@
 -- record's own all are. Assumes nothing.
 use Prim.Native.Nat.{_-_}
 use Rattle.slots.specs.Order.{rankAfter, reranked}
-use Rattle.layout.specs.Loops.{Going}
+use Rattle.layout.specs.Loops.{Turning}
 use Rattle.moves.proofs.Steps.{steps}
 use Rattle.moves.proofs.rerank.Statement.{statement}
 use Rattle.moves.proofs.rerank.Tie as tie
 
 abbrev Inv-loop : tie.InvT-loop
-Inv-loop state₀ i front n r j₀ state j = Going (reranked (rankAfter front r)) n state₀ state j
+Inv-loop state₀ i front n r j₀ state j = Turning (reranked (rankAfter front r)) n state₀ state j
 
 abbrev μ-loop : tie.MeasureT-loop
 μ-loop state₀ i front n r j₀ state j = n - j

@@ -3,13 +3,13 @@ use Prim.Native.Nat.{_≤_, _-_}
 use mathlib.Core.Path.{_≡_}
 use Rattle.slots.specs.Below.{allBelow}
 use Rattle.formed.specs.Pieces.{pairHolds}
-use Rattle.layout.specs.Layout.{recordIn}
+use Rattle.layout.specs.Layout.{stateRecord}
 use Rattle.sound.proofs.Steps.{steps}
 use Rattle.sound.proofs.apart_before.Statement.{statement}
 use Rattle.sound.proofs.apart_before.Tie as tie
 
 abbrev Inv-loop : tie.InvT-loop
-Inv-loop state i free ok₀ j₀ ok j = (j ≤ i) × (ok ≡ allBelow j (pairHolds (recordIn state .slots) i))
+Inv-loop state i free ok₀ j₀ ok j = (j ≤ i) × (ok ≡ allBelow j (pairHolds (stateRecord state .slots) i))
 
 abbrev μ-loop : tie.MeasureT-loop
 μ-loop state i free ok₀ j₀ ok j = i - j

@@ -4,13 +4,13 @@ use mathlib.Core.Path.{_≡_}
 use Rattle.arrival.specs.Message.{mostParts}
 use Rattle.slots.specs.Below.{countBelow}
 use Rattle.formed.specs.Formed.{markAt}
-use Rattle.layout.specs.Changes.{slotFrom}
+use Rattle.layout.specs.Changes.{stateSlot}
 use Rattle.sound.proofs.Steps.{steps}
 use Rattle.sound.proofs.held_count.Statement.{statement}
 use Rattle.sound.proofs.held_count.Tie as tie
 
 abbrev Inv-loop : tie.InvT-loop
-Inv-loop state i m₀ k₀ m k = (k ≤ mostParts) × (m ≤ k) × (m ≡ countBelow k (markAt (slotFrom state i)))
+Inv-loop state i m₀ k₀ m k = (k ≤ mostParts) × (m ≤ k) × (m ≡ countBelow k (markAt (stateSlot state i)))
 
 abbrev μ-loop : tie.MeasureT-loop
 μ-loop state i m₀ k₀ m k = mostParts - k

@@ -3,13 +3,13 @@ use Prim.Native.Nat.{_≤_, _-_}
 use mathlib.Core.Path.{_≡_}
 use lib.Dec.{eqb}
 use Rattle.slots.specs.Below.{anyBelow}
-use Rattle.layout.specs.Changes.{slotFrom}
+use Rattle.layout.specs.Changes.{stateSlot}
 use Rattle.sound.proofs.Steps.{steps}
 use Rattle.sound.proofs.is_rank.Statement.{statement}
 use Rattle.sound.proofs.is_rank.Tie as tie
 
 abbrev Inv-loop : tie.InvT-loop
-Inv-loop state n r any₀ i₀ any i = (i ≤ n) × (any ≡ anyBelow i (λ j. eqb (slotFrom state j .rank) r))
+Inv-loop state n r any₀ i₀ any i = (i ≤ n) × (any ≡ anyBelow i (λ j. eqb (stateSlot state j .rank) r))
 
 abbrev μ-loop : tie.MeasureT-loop
 μ-loop state n r any₀ i₀ any i = n - i

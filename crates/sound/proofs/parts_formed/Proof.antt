@@ -5,13 +5,13 @@ use mathlib.Core.Path.{_≡_}
 use Rattle.arrival.specs.Message.{mostParts}
 use Rattle.slots.specs.Below.{allBelow, fault}
 use Rattle.formed.specs.Pieces.{fewest, most, partWithin}
-use Rattle.layout.specs.Changes.{slotFrom}
+use Rattle.layout.specs.Changes.{stateSlot}
 use Rattle.sound.proofs.Steps.{steps}
 use Rattle.sound.proofs.parts_formed.Statement.{statement}
 use Rattle.sound.proofs.parts_formed.Tie as tie
 
 abbrev Inv-loop : tie.InvT-loop
-Inv-loop state i key low high total bad₀ k₀ bad k = (k ≤ mostParts) × (low ≡ fewest key) × (high ≡ most key 2) × (key ≡ slotFrom state i .key) × (total ≡ slotFrom state i .total) × (bad ≡ fault (allBelow k (partWithin (slotFrom state i))))
+Inv-loop state i key low high total bad₀ k₀ bad k = (k ≤ mostParts) × (low ≡ fewest key) × (high ≡ most key 2) × (key ≡ stateSlot state i .key) × (total ≡ stateSlot state i .total) × (bad ≡ fault (allBelow k (partWithin (stateSlot state i))))
 
 abbrev μ-loop : tie.MeasureT-loop
 μ-loop state i key low high total bad₀ k₀ bad k = mostParts - k

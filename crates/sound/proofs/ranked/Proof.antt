@@ -3,13 +3,13 @@ use Prim.Native.Nat.{_+_, _-_, _≤_}
 use mathlib.Core.Path.{_≡_}
 use Rattle.slots.specs.Below.{allBelow}
 use Rattle.formed.specs.Formed.{isRank}
-use Rattle.layout.specs.Layout.{recordIn}
+use Rattle.layout.specs.Layout.{stateRecord}
 use Rattle.sound.proofs.Steps.{steps}
 use Rattle.sound.proofs.ranked.Statement.{statement}
 use Rattle.sound.proofs.ranked.Tie as tie
 
 abbrev Inv-loop : tie.InvT-loop
-Inv-loop state n m ok₀ r₀ ok r = (r ≤ m) × (ok ≡ allBelow r (λ q. isRank n (recordIn state .slots) (q + 1)))
+Inv-loop state n m ok₀ r₀ ok r = (r ≤ m) × (ok ≡ allBelow r (λ q. isRank n (stateRecord state .slots) (q + 1)))
 
 abbrev μ-loop : tie.MeasureT-loop
 μ-loop state n m ok₀ r₀ ok r = m - r

@@ -3,13 +3,13 @@ use Prim.Native.Nat.{_≤_, _-_}
 use mathlib.Core.Path.{_≡_}
 use Rattle.slots.specs.Below.{allBelow}
 use Rattle.formed.specs.Pieces.{apartBefore}
-use Rattle.layout.specs.Layout.{recordIn}
+use Rattle.layout.specs.Layout.{stateRecord}
 use Rattle.sound.proofs.Steps.{steps}
 use Rattle.sound.proofs.slots_apart.Statement.{statement}
 use Rattle.sound.proofs.slots_apart.Tie as tie
 
 abbrev Inv-loop : tie.InvT-loop
-Inv-loop state n ok₀ i₀ ok i = (i ≤ n) × (ok ≡ allBelow i (apartBefore (recordIn state .slots)))
+Inv-loop state n ok₀ i₀ ok i = (i ≤ n) × (ok ≡ allBelow i (apartBefore (stateRecord state .slots)))
 
 abbrev μ-loop : tie.MeasureT-loop
 μ-loop state n ok₀ i₀ ok i = n - i

@@ -4,13 +4,13 @@ use mathlib.Core.Path.{_≡_}
 use Rattle.slots.specs.Below.{allBelow}
 use Rattle.slots.specs.Slots.{mostSlots}
 use Rattle.formed.specs.Pieces.{slotHolds}
-use Rattle.layout.specs.Layout.{recordIn}
+use Rattle.layout.specs.Layout.{stateRecord}
 use Rattle.sound.proofs.Steps.{steps}
 use Rattle.sound.proofs.slots_formed.Statement.{statement}
 use Rattle.sound.proofs.slots_formed.Tie as tie
 
 abbrev Inv-loop : tie.InvT-loop
-Inv-loop state n kind ok₀ i₀ ok i = (i ≤ mostSlots) × (ok ≡ allBelow i (slotHolds n kind (recordIn state .slots)))
+Inv-loop state n kind ok₀ i₀ ok i = (i ≤ mostSlots) × (ok ≡ allBelow i (slotHolds n kind (stateRecord state .slots)))
 
 abbrev μ-loop : tie.MeasureT-loop
 μ-loop state n kind ok₀ i₀ ok i = mostSlots - i

@@ -3,13 +3,13 @@ use Prim.Native.Nat.{_≤_, _-_}
 use mathlib.Core.Path.{_≡_}
 use Rattle.slots.specs.Below.{countBelow}
 use Rattle.slots.specs.Slots.{used}
-use Rattle.layout.specs.Changes.{slotFrom}
+use Rattle.layout.specs.Changes.{stateSlot}
 use Rattle.sound.proofs.Steps.{steps}
 use Rattle.sound.proofs.used_count.Statement.{statement}
 use Rattle.sound.proofs.used_count.Tie as tie
 
 abbrev Inv-loop : tie.InvT-loop
-Inv-loop state n m₀ i₀ m i = (i ≤ n) × (m ≤ i) × (m ≡ countBelow i (λ j. used (slotFrom state j)))
+Inv-loop state n m₀ i₀ m i = (i ≤ n) × (m ≤ i) × (m ≡ countBelow i (λ j. used (stateSlot state j)))
 
 abbrev μ-loop : tie.MeasureT-loop
 μ-loop state n m₀ i₀ m i = n - i

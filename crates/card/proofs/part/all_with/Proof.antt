@@ -4,7 +4,7 @@ use Prim.Native.Nat.{_≤_, _-_}
 use mathlib.Core.Path.{_≡_}
 use Rattle.arrival.specs.Message.{mostParts}
 use Rattle.slots.specs.Below.{allBelow, fault}
-use Rattle.layout.specs.Changes.{slotFrom}
+use Rattle.layout.specs.Changes.{stateSlot}
 use Rattle.series.specs.Deciding.{hasWith}
 use Rattle.card.proofs.Steps.{decideSteps}
 use Rattle.card.proofs.part.all_with.Statement.{statement}
@@ -12,7 +12,7 @@ use Rattle.card.proofs.part.all_with.Tie as tie
 
 abbrev Inv-loop : tie.InvT-loop
 Inv-loop state i total number missing₀ j₀ missing j =
-    (j ≤ mostParts) × (missing ≡ fault (allBelow j (hasWith (slotFrom state i .held) total number)))
+    (j ≤ mostParts) × (missing ≡ fault (allBelow j (hasWith (stateSlot state i .held) total number)))
 
 abbrev μ-loop : tie.MeasureT-loop
 μ-loop state i total number missing₀ j₀ missing j = mostParts - j

@@ -5,20 +5,20 @@ use Rattle.card.proofs.part.take_more.Statement.{statement}
 use Rattle.card.proofs.part.take_more.Tie as tie
 
 returns : tie.Need-returns
-returns c = (search moreSteps, (search moreSteps, search moreSteps))
+returns c = (search moreSteps, search moreSteps)
 
 returns-2 : tie.Need-returns-2
 returns-2 c =
     let front = c .before .before in
     let decided = front .before .before in
     let start = decided .before .before .before .before .before .before in
-    (search moreSteps, (search (more-repeats, c .to-front .ensures, front .enum-told .given .1, decided .decide .ensures, start .pre .0, start .pre .1 .0), tt))
+    (search moreSteps, search (more-repeats, c .to-front .ensures, front .enum-told .given .1, decided .decide .ensures, start .pre .0, start .pre .1 .0))
 
 returns-3 : tie.Need-returns-3
-returns-3 c = (search moreSteps, (search moreSteps, tt))
+returns-3 c = (search moreSteps, search moreSteps)
 
 returns-4 : tie.Need-returns-4
-returns-4 c = (search moreSteps, (search moreSteps, search moreSteps))
+returns-4 c = (search moreSteps, search moreSteps)
 
 pub take-more-spec : {M : Type 1} → statement M
 take-more-spec =

@@ -9,10 +9,10 @@ take-more-requires c κs =
     let start = held .before .before .before .before in (search moreSteps, (search moreSteps, (search moreSteps, start .pre .1 .1 .1 (held .if1 .taken))))
 
 returns : tie.Need-returns
-returns c = (search moreSteps, (search moreSteps, search moreSteps))
+returns c = (search moreSteps, search moreSteps)
 
 returns-2 : tie.Need-returns-2
-returns-2 c = (search moreSteps, (search moreSteps, tt))
+returns-2 c = (search moreSteps, search moreSteps)
 
 pub take-part-spec : {M : Type 1} → statement M
 take-part-spec =

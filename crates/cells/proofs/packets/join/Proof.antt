@@ -3,7 +3,7 @@
 use Prim.Native.Nat.{_≤_, _-_}
 use mathlib.Core.Path.{_≡_}
 use lib.ListN.{length}
-use Rattle.cells.specs.Handing.{pieceOf}
+use Rattle.cells.specs.Handing.{seriesPiece}
 use Rattle.cells.proofs.Laws.{Written}
 use Rattle.cells.proofs.Steps.{joinSteps}
 use Rattle.cells.proofs.packets.join.Statement.{statement}
@@ -11,7 +11,7 @@ use Rattle.cells.proofs.packets.join.Tie as tie
 
 abbrev Inv-loop : tie.InvT-loop
 Inv-loop cells lengths total s number part limit out₀ at₀ k₀ out at k =
-    (k ≤ total) × (at ≤ limit) × (length out ≡ length out₀) × Written (pieceOf cells lengths s number part) limit out₀ k at out
+    (k ≤ total) × (at ≤ limit) × (length out ≡ length out₀) × Written (seriesPiece cells lengths s number part) limit out₀ k at out
 
 abbrev μ-loop : tie.MeasureT-loop
 μ-loop cells lengths total s number part limit out₀ at₀ k₀ out at k = total - k

@@ -5,14 +5,14 @@ use mathlib.Core.Path.{_≡_}
 use native.Mathlib.Omega.{arith}
 use Rattle.joined.specs.Fronts.{frontOf}
 use Rattle.cells.specs.Cells.{joined}
-use Rattle.cells.specs.Handing.{pieceOf}
+use Rattle.cells.specs.Handing.{seriesPiece}
 use Rattle.cells.proofs.Steps.{frontSteps}
 use Rattle.cells.proofs.packets.joined_front.Statement.{statement}
 use Rattle.cells.proofs.packets.joined_front.Tie as tie
 
 abbrev Inv-loop : tie.InvT-loop
 Inv-loop cells lengths total s number part f₀ k₀ f k =
-    (k ≤ total) × (f ≡ frontOf (joined (pieceOf cells lengths s number part) k))
+    (k ≤ total) × (f ≡ frontOf (joined (seriesPiece cells lengths s number part) k))
 
 abbrev μ-loop : tie.MeasureT-loop
 μ-loop cells lengths total s number part f₀ k₀ f k = total - k

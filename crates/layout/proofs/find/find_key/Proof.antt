@@ -2,13 +2,13 @@
 use Prim.Native.Nat.{_-_}
 use Rattle.slots.specs.Slots.{bears}
 use Rattle.slots.specs.SearchLaws.{Passed}
-use Rattle.layout.specs.Layout.{recordIn}
+use Rattle.layout.specs.Layout.{stateRecord}
 use Rattle.layout.proofs.ReadSteps.{findSteps}
 use Rattle.layout.proofs.find.find_key.Statement.{statement}
 use Rattle.layout.proofs.find.find_key.Tie as tie
 
 abbrev Inv-loop : tie.InvT-loop
-Inv-loop state key n i₀ i = Passed (bears key) n (recordIn state .slots) i
+Inv-loop state key n i₀ i = Passed (bears key) n (stateRecord state .slots) i
 
 abbrev μ-loop : tie.MeasureT-loop
 μ-loop state key n i₀ i = n - i

@@ -2,13 +2,13 @@
 use Prim.Native.Nat.{_-_}
 use Rattle.slots.specs.Slots.{isLeastRecent}
 use Rattle.slots.specs.SearchLaws.{Passed}
-use Rattle.layout.specs.Layout.{recordIn}
+use Rattle.layout.specs.Layout.{stateRecord}
 use Rattle.layout.proofs.ReadSteps.{findSteps}
 use Rattle.layout.proofs.find.find_rank.Statement.{statement}
 use Rattle.layout.proofs.find.find_rank.Tie as tie
 
 abbrev Inv-loop : tie.InvT-loop
-Inv-loop state r n i₀ i = Passed (isLeastRecent r) n (recordIn state .slots) i
+Inv-loop state r n i₀ i = Passed (isLeastRecent r) n (stateRecord state .slots) i
 
 abbrev μ-loop : tie.MeasureT-loop
 μ-loop state r n i₀ i = n - i

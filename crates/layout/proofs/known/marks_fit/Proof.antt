@@ -3,13 +3,13 @@ use Prim.Native.Nat.{_≤_, _-_}
 use mathlib.Core.Path.{_≡_}
 use Rattle.arrival.specs.Message.{mostParts}
 use Rattle.slots.specs.Below.{allBelow, fault}
-use Rattle.layout.specs.Layout.{own, markFits}
+use Rattle.layout.specs.Layout.{slotBlock, markFits}
 use Rattle.layout.proofs.KnownSteps.{knownSteps}
 use Rattle.layout.proofs.known.marks_fit.Statement.{statement}
 use Rattle.layout.proofs.known.marks_fit.Tie as tie
 
 abbrev Inv-loop : tie.InvT-loop
-Inv-loop state i bad₀ k₀ bad k = (k ≤ mostParts) × (bad ≡ fault (allBelow k (markFits (own i state))))
+Inv-loop state i bad₀ k₀ bad k = (k ≤ mostParts) × (bad ≡ fault (allBelow k (markFits (slotBlock i state))))
 
 abbrev μ-loop : tie.MeasureT-loop
 μ-loop state i bad₀ k₀ bad k = mostParts - k

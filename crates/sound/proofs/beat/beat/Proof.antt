@@ -6,4 +6,5 @@ use Rattle.sound.proofs.beat.beat.Tie as tie
 pub beat-spec : {M : Type 1} → statement M
 beat-spec =
     tie.close
-    (tie.spec (λ c κs. search beatSteps) (λ c. search beatSteps) (λ c. search beatSteps) (λ c κs. search beatSteps) (λ c. search beatSteps))
+    (tie.spec (λ c κs. search beatSteps) (λ c κs. search beatSteps) (λ c. search beatSteps) (λ c. search beatSteps) (λ c κs. search beatSteps)
+    (λ c κs. search beatSteps) (λ c. search beatSteps))

@@ -4,14 +4,14 @@ use Prim.Native.Nat.{_-_}
 use mathlib.Core.Path.{_≡_}
 use mathlib.Core.Bool.{true}
 use Rattle.slots.specs.Slots.{mostSlots}
-use Rattle.layout.specs.Layout.{recordIn, known}
+use Rattle.layout.specs.Layout.{stateRecord, known}
 use Rattle.beats.specs.Turns.{Beat}
 use Rattle.sound.proofs.BeatSteps.{beatSteps}
 use Rattle.sound.proofs.beat.beat_slots.Statement.{statement}
 use Rattle.sound.proofs.beat.beat_slots.Tie as tie
 
 abbrev Inv-loop : tie.InvT-loop
-Inv-loop state₀ limit dropped₀ i₀ state dropped i = (known state ≡ true) × Beat limit (recordIn state₀) (recordIn state) dropped i
+Inv-loop state₀ limit dropped₀ i₀ state dropped i = (known state ≡ true) × Beat limit (stateRecord state₀) (stateRecord state) dropped i
 
 abbrev μ-loop : tie.MeasureT-loop
 μ-loop state₀ limit dropped₀ i₀ state dropped i = mostSlots - i
