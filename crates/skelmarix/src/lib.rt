@@ -102,12 +102,14 @@ pub use types::Record;
 pub use types::Slot;
 pub use types::Taken;
 
-// The same in place, on the octets of a state that the caller lends: for a card.
+// The same in place, on the octets of a state that the caller lends: for a card. The record that a state holds, and a record written as a state.
 pub use card::take_message as state_take_message;
 pub use card::take_page as state_take_page;
 pub use layout::known::fresh as fresh_state;
 pub use sound::beat::beat as state_beat;
 pub use sound::state_formed;
+pub use whole::put::state_put;
+pub use whole::record::state_record;
 
 // The same on a log of accepted parts, which anybody can follow: for a bench (02 [9]).
 pub use copies::beat_log as log_beat;
