@@ -1,7 +1,7 @@
 -- Each promise is tight: the outcome can be read back from what is told of it.
 use Prim.Native.Nat.{ℕ, _+_}
 use mathlib.Core.Path.{_≡_, refl, sym, ap, _∙_}
-use mathlib.Core.Bool.{Bool, true, false, cond}
+use mathlib.Core.Bool.{Bool, true, false, cond, _&&_}
 use mathlib.Core.List.{List, [], _∷_}
 use mathlib.Core.Option.{Option, none, some}
 use lib.ListN.{getD}
@@ -52,6 +52,8 @@ use Rattle.types.specs.declared.Beating as beating
 use Rattle.types.specs.declared.Beaten.{Beaten}
 use Rattle.beats.specs.Beats.{AfterBeat, toldBeating}
 use Rattle.series.specs.Taking as taking
+use Rattle.layout.specs.Layout as layout
+use Rattle.card.specs.Card as card
 use Rattle.types.specs.declared.Judgement.{Judgement}
 use Rattle.types.specs.declared.Judgement.the-variants as judgement
 use Rattle.types.specs.declared.JudgedCounter.{JudgedCounter}
@@ -71,6 +73,7 @@ use Rattle.types.specs.declared.Outgoing.the-variants as outgoing
 use Rattle.types.specs.declared.Announcing.{Announcing}
 use Rattle.types.specs.declared.Announcing.the-variants as announcing
 use Rattle.report.specs.Reporting as report
+use Rattle.demands.specs.Tightness.{Tight, toldBuilt, toldMade, toldPart, toldReport, toldHanded, toldTaken, toldAssessed, toldSent, toldCame, Tellings, PlainPromises, One, Promises, toldBeaten, toldMadeState, toldTakenState, toldBeatenState, OneIn, toldLogMade, toldLogTaken, toldLogBeaten, fixedTaken, fixedBeaten}
 use Rattle.types.specs.declared.Log.{Log}
 use Rattle.types.specs.declared.LogMade.{LogMade}
 use Rattle.types.specs.declared.LogTaken.{LogTaken}
@@ -79,7 +82,6 @@ use Rattle.plain.specs.Entries.{entriesFrom, LogState, stateIn}
 use Rattle.plain.specs.Engine as log
 use Rattle.plain.specs.ReadOff.{recordOf}
 use Rattle.log.specs.Laws.{entries-long}
-use Rattle.demands.specs.Tightness.{Tight, OneIn, toldLogMade, toldLogTaken, toldLogBeaten, fixedTaken, fixedBeaten, toldBuilt, toldMade, toldPart, toldReport, toldHanded, toldTaken, toldAssessed, toldSent, toldCame, Tellings, PlainPromises, One, Promises, toldBeaten}
 use Rattle.capture.specs.Captures.{nextRun, recordIn}
 use Rattle.ussd.specs.Ussd as ussd
 use Rattle.build.specs.declared.Ruling.{Ruling}
@@ -314,6 +316,28 @@ beaten-back : (r : Beaten) → beatenOf (toldBeaten r) ≡ r
 unfolding beatenOf
 beaten-back r = ap (λ (x : beating.Beating). record { answer = x; «record» = r .record }) (beating-back (r .answer))
 
+-- ---- what the calls on a state leave
+madeStateOf : layout.OnState (Outcome Unit) → Making × List ℕ
+madeStateOf a = (makingOf (a .answer), a .octets)
+
+made-state-back : (r : Making × List ℕ) → madeStateOf (toldMadeState r) ≡ r
+unfolding madeStateOf
+made-state-back (r, s) = ap (λ (x : Making). (x, s)) (making-back r)
+
+takenStateOf : card.TakenState → Answer × (List ℕ × (List ℕ × List ℕ))
+takenStateOf a = (answerOf (a .answer), (a .octets, (a .cells, a .output)))
+
+taken-state-back : (r : Answer × (List ℕ × (List ℕ × List ℕ))) → takenStateOf (toldTakenState r) ≡ r
+unfolding takenStateOf
+taken-state-back (r, (s, (cells, output))) = ap (λ (x : Answer). (x, (s, (cells, output)))) (answer-back r)
+
+beatenStateOf : layout.OnState (Outcome ℕ) → beating.Beating × List ℕ
+beatenStateOf a = (beatingOf (a .answer), a .octets)
+
+beaten-state-back : (r : beating.Beating × List ℕ) → beatenStateOf (toldBeatenState r) ≡ r
+unfolding beatenStateOf
+beaten-state-back (r, s) = ap (λ (x : beating.Beating). (x, s)) (beating-back r)
+
 -- ---- what calls on a log leave
 logMadeOf : log.BesideLog → LogMade
 logMadeOf (answer, l) = record { answer = makingOf answer; log = l }
@@ -454,6 +478,9 @@ tellings = record {
   write-report = tight toldReport reportOf report-back;
   response-announces = tight report.toldAnnouncing announcingOf announcing-back;
   beat = tight toldBeaten beatenOf beaten-back;
+  fresh-state = tight toldMadeState madeStateOf made-state-back;
+  state-take-message-and-page = tight toldTakenState takenStateOf taken-state-back;
+  state-beat = tight toldBeatenState beatenStateOf beaten-state-back;
   judge-counter = tight toldAssessed assessedOf assessed-back;
   command-sent = tight toldSent sentOf sent-back;
   response-came = tight toldCame cameOf came-back;
@@ -525,6 +552,13 @@ promises = record {
   response-announces = λ p. tellings .response-announces _;
   no-counters = plain noCounters;
   beat = λ x limit. tellings .beat _;
+  fresh-state = λ s k n. tellings .fresh-state _;
+  state-formed = λ s. plain (layout.known s && recordFormed (layout.stateRecord s .count) (layout.stateRecord s));
+  state-take-message = λ s sender ud cells out. tellings .state-take-message-and-page _;
+  state-take-page = λ s o cells out. tellings .state-take-message-and-page _;
+  state-beat = λ s limit. tellings .state-beat _;
+  state-record = λ s. plain (layout.stateRecord s);
+  state-put = λ x. plain (layout.stateOctets x);
   judge-counter = λ c p. tellings .judge-counter _;
   no-commands = plain gateway.noCommands;
   command-sent = λ t sender tar cntr. tellings .command-sent _;

@@ -2,7 +2,7 @@
 -- outcome is what the rule says. It is tight where no two outcomes are told alike.
 use Prim.Native.Nat.{ℕ}
 use mathlib.Core.Path.{_≡_}
-use mathlib.Core.Bool.{Bool}
+use mathlib.Core.Bool.{Bool, _&&_}
 use mathlib.Core.List.{List}
 use mathlib.Core.Option.{Option}
 use lib.ListN as list
@@ -21,7 +21,7 @@ use Rattle.types.specs.declared.MessageIdentifier.{MessageIdentifier}
 use Rattle.types.specs.declared.Record.{Record}
 use Rattle.types.specs.declared.Written.{Written}
 use Rattle.types.specs.declared.Answer.{Answer}
-use Rattle.types.specs.Refusals.{Lent, lent, refusalNumber, toldWritten}
+use Rattle.types.specs.Refusals.{Outcome, Lent, lent, refusalNumber, toldWritten}
 use Rattle.octets.specs.Octets as octets
 use Rattle.octets.specs.Given as given
 use Rattle.packet.specs.Packets.{plain, ciphered, wellFormed, cipheredCommand, parsing, shownData, shownCheck, shownOpaque, built, checksummed}
@@ -40,6 +40,12 @@ use Rattle.types.specs.declared.Taken.{Taken}
 use Rattle.types.specs.declared.Beaten.{Beaten}
 use Rattle.beats.specs.Beats as beats
 use Rattle.series.specs.Taking as taking
+use Rattle.types.specs.declared.Making.{Making}
+use Rattle.types.specs.declared.Beating.{Beating}
+use Rattle.series.specs.Calls.{message, page}
+use Rattle.layout.specs.Layout as layout
+use Rattle.sound.specs.Card as sound
+use Rattle.card.specs.Card as card
 use Rattle.types.specs.declared.Log.{Log}
 use Rattle.types.specs.declared.LogMade.{LogMade}
 use Rattle.types.specs.declared.LogTaken.{LogTaken}
@@ -97,6 +103,16 @@ toldTaken (r, (cells, output)) = taking.after (taking.toldAnswer (r .answer)) (r
 abbrev pub toldBeaten : Beaten → beats.AfterBeat
 toldBeaten r = beats.beaten (beats.toldBeating (r .answer)) (r .record)
 
+-- an answer of a call on a state, with its octets as they are afterwards, and with the lent cells and output
+abbrev pub toldMadeState : Making × List ℕ → layout.OnState (Outcome Unit)
+toldMadeState (r, s) = layout.onState (toldMaking r) s
+
+abbrev pub toldTakenState : Answer × (List ℕ × (List ℕ × List ℕ)) → card.TakenState
+toldTakenState (r, (s, (cells, output))) = card.takenState (taking.toldAnswer r) s cells output
+
+abbrev pub toldBeatenState : Beating × List ℕ → layout.OnState (Outcome ℕ)
+toldBeatenState (r, s) = layout.onState (beats.toldBeating r) s
+
 -- the same of a log: beside the answer there is the log by value, and what its entries say in the lent octets
 abbrev pub toldLogMade : LogMade → log.BesideLog
 toldLogMade r = log.besideLog (toldMaking (r .answer)) (r .log)
@@ -143,6 +159,12 @@ pub record Tellings : Type 0 where
   pub take-message-and-page : Tight toldTaken
   -- beat
   pub beat : Tight toldBeaten
+  -- fresh_state
+  pub fresh-state : Tight toldMadeState
+  -- state_take_message, state_take_page
+  pub state-take-message-and-page : Tight toldTakenState
+  -- state_beat
+  pub state-beat : Tight toldBeatenState
   -- write_message, write_page
   pub write-message-and-page : Tight toldPart
   -- write_report
@@ -236,6 +258,15 @@ pub record Promises : Type 0 where
   pub take-page : (x : Record) (page cells out : List ℕ)
       → One (λ (r : Taken × (List ℕ × List ℕ)). toldTaken r ≡ taking.takePage (x .count) (taking.state x cells out) page)
   pub beat : (x : Record) (limit : ℕ) → One (λ (r : Beaten). toldBeaten r ≡ beats.beat (x .count) x limit)
+  -- series on a state
+  pub fresh-state : (s : List ℕ) (k : Kind) (n : ℕ) → One (λ (r : Making × List ℕ). toldMadeState r ≡ layout.makingState s n k)
+  pub state-formed : (s : List ℕ) → One (λ (r : Bool). r ≡ (layout.known s && recordFormed (layout.stateRecord s .count) (layout.stateRecord s)))
+  pub state-take-message : (s : List ℕ) (sender : ℕ) (ud cells out : List ℕ)
+      → One (λ (r : Answer × (List ℕ × (List ℕ × List ℕ))). toldTakenState r ≡ card.takeIn s cells out (message sender ud))
+  pub state-take-page : (s o cells out : List ℕ) → One (λ (r : Answer × (List ℕ × (List ℕ × List ℕ))). toldTakenState r ≡ card.takeIn s cells out (page o))
+  pub state-beat : (s : List ℕ) (limit : ℕ) → One (λ (r : Beating × List ℕ). toldBeatenState r ≡ sound.beatIn s limit)
+  pub state-record : (s : List ℕ) → One (λ (r : Record). r ≡ layout.stateRecord s)
+  pub state-put : (x : Record) → One (λ (r : List ℕ). r ≡ layout.stateOctets x)
   -- the same on a log
   pub fresh-log : (k : Kind) (n : ℕ) → One (λ (r : LogMade). toldLogMade r ≡ log.makingLog n k)
   pub log-formed : (l : Log) (entries : List ℕ) → One (λ (r : Bool). r ≡ log.stateFormed (stateIn l entries))
