@@ -6,6 +6,7 @@ use Rattle.sequences.proofs.Calls as calls
 use Rattle.sequences.proofs.Wake as wake
 use Rattle.sequences.proofs.Crowding as crowding
 use Rattle.shuffles.proofs.Others as others
+use Rattle.demands.proofs.RefusedInPlace as inplace
 use Rattle.demands.proofs.Refusing as refusing
 use Rattle.trips.proofs.Orders as orders
 use Rattle.trips.proofs.Twice as twice
@@ -40,6 +41,8 @@ demand-1 = record {
   salvaging-a-capture = refusing.salvaging-refused;
   unfit = refusing.unfit-refused;
   making-a-record = refusing.making-refused;
+  on-a-state = inplace.state-refused;
+  on-a-log = inplace.log-refused;
   acceptance = reachable.acceptance;
   refused-if-never-made = never.refused-if-never-made;
 }

@@ -1,3 +1,4 @@
 pub mod Refusing
+pub mod RefusedInPlace
 pub mod Tightness
 pub mod Demands

@@ -5,6 +5,7 @@ use mathlib.Core.List.{List}
 use Rattle.types.specs.declared.Kind.{Kind}
 use Rattle.packet.specs.Packets.{Fields}
 use Rattle.types.specs.declared.Key.{Key}
+use Rattle.demands.specs.RefusedInPlace.{StateRefused, LogRefused}
 use Rattle.demands.specs.Refusing.{TakingRefused, ParsingRefused, BuildingRefused, ChecksumRefused, WritingRefused, PageRefused, ReportRefused, JudgingRefused, SendingRefused, ClosingRefused, AnnouncingRefused, UnfitRefused, MakingRefused, SalvagingRefused, BeatRefused, UssdReadingRefused, UssdWritingRefused, UssdChecksumRefused}
 use Rattle.sequences.specs.Runs.{Slots}
 use Rattle.trips.specs.Orders.{OrderFree}
@@ -48,6 +49,8 @@ pub record Demand1 : Type 0 where
   pub salvaging-a-capture : SalvagingRefused
   pub unfit : (n : ℕ) → UnfitRefused n
   pub making-a-record : MakingRefused
+  pub on-a-state : StateRefused
+  pub on-a-log : LogRefused
   pub acceptance : (n : ℕ) → Slots n → Acceptance n
   pub refused-if-never-made : RefusedIfNeverMade
 

@@ -1,3 +1,4 @@
 pub mod Demands
+pub mod RefusedInPlace
 pub mod Refusing
 pub mod Tightness
