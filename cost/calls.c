@@ -362,11 +362,81 @@ static void captures(void) {
     gives("salvage, 65,536 octets, A5 5A over and over", salvage, 0);
 }
 
+/* ---- the same on a log */
+enum { LOG_OCTETS = 80 * 151 };
+static uint8_t entries[LOG_OCTETS];
+static Log logged;
+static LogTaken log_taken;
+static LogBeaten log_beaten;
+
+static void log_take_message(void) { log_taken = cost_log_take_message(logged, 7, ud, length, entries, LOG_OCTETS, out, MOST); }
+static void log_take_page(void) { log_taken = cost_log_take_page(logged, page, PAGE, entries, LOG_OCTETS, out, MOST); }
+static void log_beat(void) { log_beaten = cost_log_beat(logged, limit, entries, LOG_OCTETS); }
+static void log_formed(void) { length = cost_log_formed(logged, entries, LOG_OCTETS); }
+static void log_record(void) { record = cost_log_record(logged, entries, LOG_OCTETS); }
+static void log_three(void) { logged = cost_fresh_log(0, 3); }
+
+static void log_answers(const char *name, void (*call)(void), int what, size_t number) {
+    run(name, call);
+    expect(log_taken.what == what && log_taken.number == number);
+}
+
+static void log_hold(uint32_t reference, uint32_t number) {
+    part(reference, number), log_take_message();
+    logged = log_taken.log;
+}
+
+static void log_beats_as(const char *name, uint8_t l, int what, int number) {
+    limit = l;
+    run(name, log_beat);
+    expect(log_beaten.what == what && log_beaten.number == number);
+}
+
+/* what messages() does, on a log of three slots; then the most entries that there can be: 75, of five series */
+static void logs(void) {
+    run("fresh_log", log_three);
+    part(1, 2);
+    log_answers("log_take_message, kept, empty log", log_take_message, 1, 0);
+    log_hold(1, 1), log_hold(2, 1), log_hold(3, 1);
+    gives("log_formed, three series held", log_formed, 1);
+    part(1, 2);
+    log_answers("log_take_message, kept, three series held", log_take_message, 1, 0);
+    logged.count = 3, part(2, 1);
+    log_answers("log_take_message, held already, three series held", log_take_message, 2, 1);
+    limit = 9, log_beats_as("log_beat, three series held, none dropped", 9, 1, 0);
+    log_three(), log_hold(1, 1), log_hold(2, 1), log_hold(3, 1), part(4, 1);
+    log_answers("log_take_message, kept, displacing", log_take_message, 1, 0);
+    log_three(), log_hold(1, 1), log_hold(2, 1), log_hold(3, 1);
+    for (uint32_t k = 2; k < 16; k++) log_hold(1, k);
+    part(1, 16);
+    log_answers("log_take_message, the sixteenth part of 2,142 octets", log_take_message, 3, MOST);
+    logged = log_taken.log, memset(ud, 0xFF, UD), length = UD;
+    log_answers("log_take_message, refused 3, garbage", log_take_message, 0, 3);
+    entries[1] = 9, part(1, 2);
+    log_answers("log_take_message, refused 1, a log that it could not have made", log_take_message, 0, 1);
+    logged = cost_fresh_log(0, 5);
+    for (uint32_t r = 1; r <= 5; r++)
+        for (uint32_t k = 1; k < 16; k++) log_hold(r, k);
+    expect(logged.count == 75);
+    gives("log_formed, 75 entries", log_formed, 1);
+    run("log_record, 75 entries", log_record);
+    expect(record.slots[4].held[14] && !record.slots[4].held[15]);
+    log_beats_as("log_beat, 75 entries, none dropped", 9, 1, 0);
+    part(1, 16);
+    log_answers("log_take_message, the sixteenth part, 75 entries", log_take_message, 3, MOST);
+    log_three();
+    for (uint32_t k = 1; k < 4; k++) {
+        cost_write_page(5, 0x1080, 0, k, paged, PAGED, page, PAGE);
+        if (k == 3) log_answers("log_take_page, kept, one series held", log_take_page, 1, 0);
+        log_take_page(), logged = log_taken.log;
+    }
+}
+
 int main(int argc, char **argv) {
     stack = argc > 1 && !strcmp(argv[1], "stack");
     fill();
     run("an empty call", nothing);
     run("a call that hands the record back as it is", hand_back);
-    numbers(), messages(), pages(), records(), packets(), octets(), beats(), judgements(), commands(), strings(), captures();
+    numbers(), messages(), pages(), records(), packets(), octets(), beats(), judgements(), commands(), strings(), captures(), logs();
     return 0;
 }

@@ -66,3 +66,12 @@ size_t cost_ussd_opaque(uint8_t pfi, uint8_t dcs, const uint8_t *string, size_t)
 size_t cost_write_ussd(const uint8_t *check, size_t, const uint8_t *data, size_t, uint8_t *out, size_t);
 size_t cost_write_ciphered_ussd(uint16_t header, const uint8_t *opaque, size_t, uint8_t *out, size_t);
 size_t cost_ussd_checksum(const uint8_t *um, size_t, uint8_t *out, size_t);
+typedef struct { uint8_t kind, slots, count; } Log;
+typedef struct { uint8_t what; size_t number; Log log; } LogTaken;
+typedef struct { uint8_t what, number; Log log; } LogBeaten;
+Log cost_fresh_log(uint8_t kind, uint8_t n);
+bool cost_log_formed(Log, const uint8_t *entries, size_t);
+LogTaken cost_log_take_message(Log, uint32_t sender, const uint8_t *ud, size_t, uint8_t *entries, size_t, uint8_t *out, size_t);
+LogTaken cost_log_take_page(Log, const uint8_t *page, size_t, uint8_t *entries, size_t, uint8_t *out, size_t);
+LogBeaten cost_log_beat(Log, uint8_t limit, uint8_t *entries, size_t);
+Record cost_log_record(Log, const uint8_t *entries, size_t);
