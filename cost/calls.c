@@ -5,15 +5,17 @@
 #include <string.h>
 #include "calls.h"
 
-enum { SLOT = 2144, CELLS = 5 * SLOT, MOST = 2142, PAGED = 1230, SMALL = 52, WHOLE = 137, UD = 140, PAGE = 88, SUM = 2145, FILE_OCTETS = 65536, CAPTURED = 144, USSD = 160, DCS = 0x96, PAINTED = 16384 };
+enum { SLOT = 2144, CELLS = 5 * SLOT, MOST = 2142, PAGED = 1230, SMALL = 52, WHOLE = 137, UD = 140, PAGE = 88, SUM = 2145, FILE_OCTETS = 65536, CAPTURED = 144, USSD = 160, STATE = 233, DCS = 0x96, PAINTED = 16384 };
 
 static uint8_t cells[CELLS], out[MOST], ud[UD], page[PAGE], sum[SUM];
 static uint8_t packet[MOST], paged[PAGED], small[SMALL], response[MOST], whole[WHOLE];
+static uint8_t single[WHOLE], state[STATE], three_held[STATE];
 static uint8_t string[USSD], secret[USSD], brief[USSD];
 static uint8_t file[FILE_OCTETS], salvaged[FILE_OCTETS];
 static Record record;
 static Taken taken;
 static Beaten beaten;
+static Told told;
 static Counters counters;
 static Judged judged;
 static Outstanding outstanding;
@@ -134,6 +136,13 @@ static void command_sent(void) { settled = cost_command_sent(outstanding, sent);
 static void response_came(void) { settled = cost_response_came(outstanding, sent.sender, whole, WHOLE); }
 static void salvage(void) { length = cost_salvage(file, FILE_OCTETS, salvaged, FILE_OCTETS); }
 static void read_captured(void) { length = cost_read_captured(file, CAPTURED); }
+static void fresh_state(void) { length = cost_fresh_state(state, 0, 3); }
+static void state_formed(void) { length = cost_state_formed(state); }
+static void state_take_message(void) { told = cost_state_take_message(state, 7, ud, length, cells, state[2] * SLOT, out, MOST); }
+static void state_take_page(void) { told = cost_state_take_page(state, page, PAGE, cells, state[2] * SLOT, out, MOST); }
+static void state_beat(void) { told = cost_state_beat(state, limit); }
+static void state_record(void) { record = cost_state_record(state); }
+static void state_put(void) { cost_state_put(record, state); }
 
 /* all octets that are skipped, run by run */
 static void all_skipped(void) {
@@ -153,7 +162,7 @@ static void stated(uint8_t *p, const uint8_t *from, size_t n, uint8_t header) {
 static void fill(void) {
     for (int i = 0; i < MOST; i++) packet[i] = (uint8_t)(i * 7 + 3);
     packet[3] = 0x12;
-    stated(packet, packet, MOST, 21), stated(paged, packet, PAGED, 21), stated(small, packet, SMALL, 21), stated(response, packet, MOST, 18), stated(whole, packet, WHOLE, 18);
+    stated(packet, packet, MOST, 21), stated(paged, packet, PAGED, 21), stated(small, packet, SMALL, 21), stated(response, packet, MOST, 18), stated(whole, packet, WHOLE, 18), stated(single, packet, WHOLE, 21);
 }
 
 static void part(uint32_t reference, uint32_t number) { length = cost_write_message(0, 8, reference, number, packet, MOST, ud, UD); }
@@ -432,11 +441,70 @@ static void logs(void) {
     }
 }
 
+/* ---- on a state */
+static void tells(const char *name, void (*call)(void), int what, size_t number) {
+    run(name, call);
+    expect(told.what == what && told.number == number);
+}
+
+static void keep(uint32_t reference, uint32_t number) { part(reference, number), state_take_message(); }
+
+/* the state with three series held again */
+static void again(void) { memcpy(state, three_held, STATE); }
+
+static void states(void) {
+    gives("fresh_state", fresh_state, 0);
+    gives("state_formed, fresh", state_formed, 1);
+    part(1, 2);
+    tells("state_take_message, kept, empty state", state_take_message, 1, 0);
+    fresh_state(), keep(1, 1), keep(2, 1), part(3, 1);
+    tells("state_take_message, kept, new, two others held", state_take_message, 1, 2);
+    memcpy(three_held, state, STATE);
+    gives("state_formed, three series held", state_formed, 1);
+    part(1, 2);
+    tells("state_take_message, kept, three series held", state_take_message, 1, 0);
+    again(), part(2, 1);
+    tells("state_take_message, held already, three series held", state_take_message, 2, 1);
+    again(), part(4, 1);
+    tells("state_take_message, kept, displacing", state_take_message, 1, 0);
+    again();
+    for (uint32_t k = 2; k < 16; k++) keep(1, k);
+    part(1, 16);
+    tells("state_take_message, the sixteenth part of 2,142 octets", state_take_message, 3, MOST);
+    again(), length = cost_write_message(0, 8, 1, 1, single, WHOLE, ud, UD);
+    tells("state_take_message, a single of 137 octets", state_take_message, 3, WHOLE);
+    memset(ud, 0xFF, UD), length = UD;
+    tells("state_take_message, refused 3, garbage", state_take_message, 0, 3);
+    empty_elements();
+    run("state_take_message, header of 69 empty elements", state_take_message);
+    part(1, 2), state[0] = 2;
+    tells("state_take_message, refused 1, another format", state_take_message, 0, 1);
+    fresh_state();
+    for (uint32_t k = 1; k < 15; k++) {
+        cost_write_page(5, 0x1080, 0, k, paged, PAGED, page, PAGE);
+        if (k == 3) run("state_take_page, kept, one series held", state_take_page);
+        else state_take_page();
+    }
+    cost_write_page(5, 0x1080, 0, 15, paged, PAGED, page, PAGE);
+    tells("state_take_page, the fifteenth page of 1,230 octets", state_take_page, 3, PAGED);
+    again(), limit = 9;
+    tells("state_beat, three series held, none dropped", state_beat, 1, 0);
+    limit = 1;
+    tells("state_beat, three series held, all dropped", state_beat, 1, 3);
+    limit = 0;
+    tells("state_beat, refused 18", state_beat, 0, 18);
+    again();
+    run("state_record", state_record);
+    memset(state, 0, STATE);
+    run("state_put", state_put);
+    expect(!memcmp(state, three_held, STATE));
+}
+
 int main(int argc, char **argv) {
     stack = argc > 1 && !strcmp(argv[1], "stack");
     fill();
     run("an empty call", nothing);
     run("a call that hands the record back as it is", hand_back);
-    numbers(), messages(), pages(), records(), packets(), octets(), beats(), judgements(), commands(), strings(), captures(), logs();
+    numbers(), messages(), pages(), records(), packets(), octets(), beats(), judgements(), commands(), strings(), captures(), logs(), states();
     return 0;
 }

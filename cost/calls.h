@@ -7,6 +7,7 @@ typedef struct { uint8_t rank, beats; Key key; uint8_t total, lengths[16]; bool 
 typedef struct { uint8_t kind, count; Slot slots[5]; } Record;
 typedef struct { uint8_t what; bool displaced; size_t number; Record record; } Taken;
 typedef struct { uint8_t what, number; Record record; } Beaten;
+typedef struct { uint8_t what; bool displaced; size_t number; } Told;
 typedef struct { uint8_t tar[3], cntr[5]; } Entry;
 typedef struct { uint8_t count; Entry entries[16]; } Counters;
 typedef struct { uint8_t what, number; Counters counters; } Judged;
@@ -75,3 +76,10 @@ LogTaken cost_log_take_message(Log, uint32_t sender, const uint8_t *ud, size_t, 
 LogTaken cost_log_take_page(Log, const uint8_t *page, size_t, uint8_t *entries, size_t, uint8_t *out, size_t);
 LogBeaten cost_log_beat(Log, uint8_t limit, uint8_t *entries, size_t);
 Record cost_log_record(Log, const uint8_t *entries, size_t);
+uint8_t cost_fresh_state(uint8_t *state, uint8_t kind, uint8_t n);
+bool cost_state_formed(const uint8_t *state);
+Told cost_state_take_message(uint8_t *state, uint32_t sender, const uint8_t *ud, size_t, uint8_t *cells, size_t, uint8_t *out, size_t);
+Told cost_state_take_page(uint8_t *state, const uint8_t *page, size_t, uint8_t *cells, size_t, uint8_t *out, size_t);
+Told cost_state_beat(uint8_t *state, uint8_t limit);
+Record cost_state_record(const uint8_t *state);
+void cost_state_put(Record, uint8_t *state);
