@@ -73,7 +73,8 @@ enum Gone {
 }
 
 // ---- ranks and counts
-// The rank of an entry after a series of rank r has come to the front: what was more recent is one less so.
+// The rank of an entry after a series of rank r has come to the front: what was more recent is one less so. No log that was made has a rank or a count of
+// 255, and neither rises further: so no octet runs over, whatever is lent.
 fn aged(r: u8, rank: u8) -> u8
     ensures { λ x. ⌜ x ≡ rankAfter true r rank ⌝ }
 {
