@@ -17,18 +17,18 @@
 --   13                the total
 --   14 to 29          the lengths of parts 1 to 16
 --   30 to 45          their marks: 1 the part is held, 0 it is not
-use Prim.Native.Nat.{ℕ, _+_, _*_, _/_, _%_}
+use Prim.Native.Nat.{ℕ, _+_, _*_}
 use mathlib.Core.Bool.{Bool, not, cond, _&&_}
 use mathlib.Core.List.{List, [], _∷_, _++_, map}
 use lib.ListN.{length, getD, take, drop}
 use lib.Dec.{eqb, leb}
 use Rattle.types.specs.declared.Kind.{Kind}
 use Rattle.types.specs.declared.Kind.the-variants.{Command, Response}
-use Rattle.types.specs.declared.Key.{Key}
 use Rattle.types.specs.declared.Slot.{Slot}
 use Rattle.types.specs.declared.Record.{Record}
 use Rattle.types.specs.Refusals.{Outcome, refused, gives}
-use Rattle.octets.specs.Octets.{numberOf}
+pub use Rattle.keyed.specs.KeyOctets.{wideNumber}
+use Rattle.keyed.specs.KeyOctets.{keyAt, keyOctets}
 use Rattle.arrival.specs.Message.{mostParts}
 use Rattle.slots.specs.Below.{allBelow}
 use Rattle.slots.specs.Slots.{mostSlots, isSlotNumber, freshRecord}
@@ -58,21 +58,9 @@ kindIn k = cond (eqb k 0) Command Response
 abbrev pub isMark : ℕ → Bool
 isMark q = not (eqb q 0)
 
-abbrev pub wideNumber : ℕ → ℕ → ℕ
-wideNumber high low = high * 65536 + low
-
-abbrev pub slotKeyIn : List ℕ → Key
-slotKeyIn h = record {
-  sender = wideNumber (numberOf (getD h 2 0) (getD h 3 0)) (numberOf (getD h 4 0) (getD h 5 0));
-  width = getD h 6 0;
-  reference = numberOf (getD h 7 0) (getD h 8 0);
-  serial = record { 0 = numberOf (getD h 9 0) (getD h 10 0) };
-  identifier = record { 0 = numberOf (getD h 11 0) (getD h 12 0) };
-}
-
 -- a slot of what is before its lengths, of its lengths and of its marks
 unfoldable pub slotFields : List ℕ → List ℕ → List ℕ → Slot
-slotFields h ns ms = record { rank = getD h 0 0; beats = getD h 1 0; key = slotKeyIn h; total = getD h 13 0; lengths = ns; held = map isMark ms }
+slotFields h ns ms = record { rank = getD h 0 0; beats = getD h 1 0; key = keyAt 2 h; total = getD h 13 0; lengths = ns; held = map isMark ms }
 
 unfoldable pub slotIn : List ℕ → Slot
 slotIn x = slotFields (take 14 x) (take 16 (drop 14 x)) (take 16 (drop 30 x))
@@ -113,14 +101,6 @@ kindOctet Response = 1
 
 abbrev pub markOctet : Bool → ℕ
 markOctet b = cond b 1 0
-
--- two octets of a number, before others
-abbrev pub withNumber : ℕ → List ℕ → List ℕ
-withNumber n o = n / 256 ∷ n % 256 ∷ o
-
-abbrev pub keyOctets : Key → List ℕ → List ℕ
-keyOctets k o =
-    withNumber (k .sender / 65536) (withNumber (k .sender % 65536) (k .width ∷ withNumber (k .reference) (withNumber (k .serial .0) (withNumber (k .identifier .0) o))))
 
 abbrev pub slotHead : Slot → List ℕ
 slotHead x = x .rank ∷ x .beats ∷ keyOctets (x .key) (x .total ∷ [])

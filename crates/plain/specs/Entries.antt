@@ -1,8 +1,8 @@
 -- The log of the plain engine (02 [9]): "one lent log of accepted parts in order of arrival, at most 80 entries". What an entry says, and its octets.
-use Prim.Native.Nat.{ℕ, zero, suc, _+_, _*_, _/_, _%_}
+use Prim.Native.Nat.{ℕ, zero, suc, _*_}
 use mathlib.Core.List.{List, [], _∷_, _++_}
 use lib.ListN.{length, getD, take, drop}
-use Rattle.octets.specs.Octets.{numberOf}
+use Rattle.keyed.specs.KeyOctets.{keyAt, keyOctets}
 use Rattle.types.specs.declared.Kind.{Kind}
 use Rattle.types.specs.declared.Key.{Key}
 use Rattle.types.specs.declared.Log.{Log}
@@ -35,16 +35,6 @@ mostEntries = 80
 abbrev pub logOctets : ℕ
 logOctets = mostEntries * entryOctets
 
-abbrev pub entryKey : List ℕ → Key
-entryKey o =
-    record {
-      sender = numberOf (getD o 3 0) (getD o 4 0) * 65536 + numberOf (getD o 5 0) (getD o 6 0);
-      width = getD o 7 0;
-      reference = numberOf (getD o 8 0) (getD o 9 0);
-      serial = record { 0 = numberOf (getD o 10 0) (getD o 11 0) };
-      identifier = record { 0 = numberOf (getD o 12 0) (getD o 13 0) };
-    }
-
 -- what an entry's octets say
 abbrev pub entryIn : List ℕ → Entry
 entryIn o =
@@ -52,7 +42,7 @@ entryIn o =
       slot = getD o 0 0;
       rank = getD o 1 0;
       beats = getD o 2 0;
-      key = entryKey o;
+      key = keyAt 3 o;
       total = getD o 14 0;
       number = getD o 15 0;
       size = getD o 16 0;
@@ -62,9 +52,7 @@ entryIn o =
 -- The octets that are written for an entry: its head, and the part's own octets behind it.
 abbrev pub headOf : Entry → List ℕ
 headOf e =
-    e .slot ∷ e .rank ∷ e .beats ∷ e .key .sender / 65536 / 256 ∷ e .key .sender / 65536 % 256 ∷ e .key .sender % 65536 / 256 ∷ e .key .sender % 65536 % 256
-    ∷ e .key .width ∷ e .key .reference / 256 ∷ e .key .reference % 256 ∷ e .key .serial .0 / 256 ∷ e .key .serial .0 % 256
-    ∷ e .key .identifier .0 / 256 ∷ e .key .identifier .0 % 256 ∷ e .total ∷ e .number ∷ e .size ∷ []
+    e .slot ∷ e .rank ∷ e .beats ∷ keyOctets (e .key) (e .total ∷ e .number ∷ e .size ∷ [])
 
 abbrev pub writtenFor : Entry → List ℕ
 writtenFor e = headOf e ++ e .octets
