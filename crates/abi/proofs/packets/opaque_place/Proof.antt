@@ -1,0 +1,8 @@
+-- `opaque_place` meets its contract: the kind is one or the other. Assumes nothing.
+use Rattle.abi.proofs.Steps.{steps}
+use Rattle.abi.proofs.packets.opaque_place.Statement.{statement}
+use Rattle.abi.proofs.packets.opaque_place.Tie as tie
+
+pub opaque-place-spec : {M : Type 1} → statement M
+opaque-place-spec =
+    tie.close (tie.spec (λ c. search steps) (λ c. search steps) (λ c. search steps) (λ c. search steps))

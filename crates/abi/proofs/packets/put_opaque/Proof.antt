@@ -1,0 +1,8 @@
+-- `put_opaque` meets its contract: the part is that of the rule, so its length is too. Assumes nothing.
+use Rattle.abi.proofs.Steps.{steps}
+use Rattle.abi.proofs.packets.put_opaque.Statement.{statement}
+use Rattle.abi.proofs.packets.put_opaque.Tie as tie
+
+pub put-opaque-spec : {M : Type 1} → statement M
+put-opaque-spec =
+    tie.close (tie.spec (λ c κs. search steps) (λ c κs. search steps) (λ c κs. search steps) (λ c κs. search steps) (λ c. cc))

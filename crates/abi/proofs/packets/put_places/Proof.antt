@@ -1,0 +1,8 @@
+-- `put_places` meets its contract: the body is one or the other. Assumes nothing.
+use Rattle.abi.proofs.Steps.{steps}
+use Rattle.abi.proofs.packets.put_places.Statement.{statement}
+use Rattle.abi.proofs.packets.put_places.Tie as tie
+
+pub put-places-spec : {M : Type 1} → statement M
+put-places-spec =
+    tie.close (tie.spec (λ c κs. search steps) (λ c. search steps) (λ c κs. search steps) (λ c. search steps))

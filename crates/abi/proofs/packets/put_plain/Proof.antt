@@ -1,0 +1,8 @@
+-- `put_plain` meets its contract: each part is that of the rule, so its length is too. Assumes nothing.
+use Rattle.abi.proofs.Steps.{steps}
+use Rattle.abi.proofs.packets.put_plain.Statement.{statement}
+use Rattle.abi.proofs.packets.put_plain.Tie as tie
+
+pub put-plain-spec : {M : Type 1} → statement M
+put-plain-spec =
+    tie.close (tie.spec (λ c κs. search steps) (λ c κs. search steps) (λ c κs. search steps) (λ c κs. search steps) (λ c κs. search steps) (λ c κs. search steps) (λ c. search steps) (λ c κs. search steps) (λ c. cc))

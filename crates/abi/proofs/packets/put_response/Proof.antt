@@ -1,0 +1,8 @@
+-- `put_response` meets its contract: in each arm the answer is known, and what is put into the lent numbers is what is heard of it. Assumes nothing.
+use Rattle.abi.proofs.Steps.{steps}
+use Rattle.abi.proofs.packets.put_response.Statement.{statement}
+use Rattle.abi.proofs.packets.put_response.Tie as tie
+
+pub put-response-spec : {M : Type 1} → statement M
+put-response-spec =
+    tie.close (tie.spec (λ c. search steps) (λ c. search steps) (λ c. search steps) (λ c. search steps) (λ c. search steps))
