@@ -938,12 +938,31 @@ static void test_captured(void) {
     ANSWERS(0, skm_read_captured(in, 92, now.found));
 }
 
+/* NULL with the length 0, for octets that are read and for buffers. */
+static void test_null(void) {
+    begin();
+    empty_state(now.state, 0, 1);
+    settle();
+    want_none();
+    ANSWERS(3, skm_take_message(now.state, 1, NULL, 0, now.cells, SKM_SLOT_OCTETS, now.out, SKM_PACKET_OCTETS, now.taken));
+    ANSWERS(1, skm_take_message(now.state, 1, in, 3, NULL, 0, NULL, 0, now.taken));
+    want_parsed("", 13, 0, 0, 0);
+    ANSWERS(9, skm_parse_command(NULL, 0, now.fields, now.body));
+    put(in, "B00010 0000000001 00 00");
+    want.length = put(want.out, "000B0A B00010 0000000001 00 00");
+    ANSWERS(0, skm_build_response(in, NULL, 0, NULL, 0, now.out, SKM_PACKET_OCTETS, &now.length));
+    want.length = 0;
+    ANSWERS(1, skm_build_response(in, NULL, 0, NULL, 0, NULL, 0, &now.length));
+    ANSWERS(0, skm_salvage(NULL, 0, NULL, 0, &now.length));
+}
+
 int main(void) {
     static void (*const tests[])(void) = {
         test_version, test_fresh, test_run, test_held_already, test_key, test_take_refused, test_take_buffers, test_damaged, test_pages, test_page_refused, test_beat,
         test_formed, test_parse_command, test_parse_command_refused, test_parse_response, test_build_command, test_build_ciphered_command, test_build_response,
         test_build_ciphered_response, test_checksums, test_read_message, test_read_page, test_write_message, test_write_message_refused, test_write_page, test_trip,
-        test_read_ussd, test_write_ussd, test_write_ciphered_ussd, test_ussd_checksum, test_report, test_announces, test_captures, test_captured};
+        test_read_ussd, test_write_ussd, test_write_ciphered_ussd, test_ussd_checksum, test_report, test_announces, test_captures, test_captured,
+        test_null};
     size_t i;
     for (i = 0; i < sizeof tests / sizeof *tests; i++) tests[i]();
     say("c: ");
