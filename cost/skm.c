@@ -156,8 +156,8 @@ static void others(void) {
 }
 
 static void states(void) {
-    answers("fresh_with", three, 0);
     answers("fresh", fresh, 0);
+    answers("fresh_with", three, 0);
     answers("state_formed, fresh", formed, 0);
     again();
     answers("state_formed, three series held", formed, 0);
