@@ -31,7 +31,7 @@ fn parts_out_of_order_make_the_packet() {
     let (_, part) = write_message(Kind::Command, 8, 255, 1, &packet, &mut ud).unwrap();
     assert_eq!(kept.message(1, part, &mut cells, &mut out), Ok(Taken::Packet(&packet)));
     assert_eq!(card.beat(1), Ok(1));
-    assert!(card == kept);
+    assert!(card == kept && card == State::fresh(Kind::Command).unwrap());
 }
 
 #[test]
