@@ -1,5 +1,1 @@
-pub mod Given
-pub mod Heard
-pub mod Laws
-pub mod Back
 pub mod Tightness

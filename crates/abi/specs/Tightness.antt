@@ -19,8 +19,8 @@ use Rattle.split.specs.Splitting.{writeMessage, writePage}
 use Rattle.ussd.specs.Ussd.{readUssd, writtenUssd, ussdChecksummed}
 use Rattle.report.specs.Reporting.{writeReport, responseAnnounces}
 use Rattle.capture.specs.Captures as capture
-use Rattle.abi.specs.Given.{versionNumber, octetIn, tarGiven, clearGiven, responseGiven, commandGiven}
-use Rattle.abi.specs.Heard.{heardTest, heardMade, heardBeaten, heardState, heardWritten, heardPiece, heardBrought, heardParsed, heardPlaces, heardReport, heardAnnouncing, heardRun, heardCaptured}
+use Rattle.heard.specs.Given.{versionNumber, octetIn, tarGiven, clearGiven, responseGiven, commandGiven}
+use Rattle.heard.specs.Heard.{heardTest, heardMade, heardBeaten, heardState, heardWritten, heardPiece, heardBrought, heardParsed, heardPlaces, heardReport, heardAnnouncing, heardRun, heardCaptured}
 
 -- whatever comes out is this
 abbrev pub Fixed : {Outcome : Type 0} → Outcome → Type 0

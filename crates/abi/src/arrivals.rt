@@ -1,6 +1,6 @@
 // Reading one message or page by itself, and writing one part.
-use crate::hear;
-use crate::parts;
+use heard::hear;
+use heard::parts;
 use types::MessageIdentifier;
 use types::SerialNumber;
 ghost use mathlib.Core.Path.{_≡_};
@@ -8,7 +8,7 @@ ghost use Rattle.layout.specs.Layout.{kindIn};
 ghost use Rattle.arrival.specs.Message.{readMessage};
 ghost use Rattle.arrival.specs.Page.{readPage};
 ghost use Rattle.split.specs.Splitting.{writeMessage, writePage};
-ghost use Rattle.abi.specs.Heard.{heardBrought, heardPiece};
+ghost use Rattle.heard.specs.Heard.{heardBrought, heardPiece};
 
 // What a message brings.
 #[no_mangle]

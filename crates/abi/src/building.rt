@@ -3,15 +3,15 @@ use crate::CLEAR_FIELDS;
 use crate::COMMAND_FIELDS;
 use crate::RESPONSE_FIELDS;
 use crate::TAR_FIELDS;
-use crate::hear;
-use crate::parts;
+use heard::hear;
+use heard::parts;
 ghost use mathlib.Core.Path.{_≡_};
 ghost use mathlib.Core.Bool.{not};
 ghost use lib.Dec.{eqb};
 ghost use Rattle.types.specs.declared.Kind.the-variants.{Command, Response};
 ghost use Rattle.packet.specs.Packets.{plain, ciphered, cipheredCommand, built, checksummed};
-ghost use Rattle.abi.specs.Given.{clearGiven, tarGiven, commandGiven, responseGiven};
-ghost use Rattle.abi.specs.Heard.{heardWritten};
+ghost use Rattle.heard.specs.Given.{clearGiven, tarGiven, commandGiven, responseGiven};
+ghost use Rattle.heard.specs.Heard.{heardWritten};
 
 // Builds a plain command.
 #[no_mangle]

@@ -1,9 +1,9 @@
 // Captures: what is sound of one, the runs that are skipped, and one record by itself.
-use crate::hear;
+use heard::hear;
 use types::Captured;
 ghost use mathlib.Core.Path.{_≡_};
 ghost use Rattle.capture.specs.Captures.{salvaging, nextRun, recordIn};
-ghost use Rattle.abi.specs.Heard.{heardWritten, heardRun, heardCaptured};
+ghost use Rattle.heard.specs.Heard.{heardWritten, heardRun, heardCaptured};
 
 // Copies the sound records of a file to the start of an output of its length.
 #[no_mangle]

@@ -3,15 +3,13 @@
 mod arrivals;
 mod building;
 mod captures;
-mod hear;
 mod packets;
-mod parts;
 mod reports;
 mod states;
 mod strings;
 
 ghost use mathlib.Core.Path.{_≡_};
-ghost use Rattle.abi.specs.Given.{versionNumber};
+ghost use Rattle.heard.specs.Given.{versionNumber};
 
 // The octets of a plain command's fields up to its check field: SPI, KIc, KID, TAR, CNTR, PCNTR. The first seven are those of a ciphered one.
 pub const COMMAND_FIELDS: usize = 13;

@@ -1,8 +1,8 @@
 // Reading packets: their fields, and where the parts are in the caller's packet.
 use crate::COMMAND_FIELDS;
 use crate::RESPONSE_FIELDS;
-use crate::hear;
-use crate::parts;
+use heard::hear;
+use heard::parts;
 use packet::behind;
 use packet::read;
 use packet::read::Judged;
@@ -23,7 +23,7 @@ ghost use lib.Dec.{eqb};
 ghost use Rattle.packet.specs.Packets.{before, chl, fieldsOf, wellFormed, cipheredCommand, plainParsed, cipheredParsed, parsing};
 ghost use Rattle.packet.specs.Told.{clearOctets, commandFixed, commandFields, responseFields, toldCommand, toldResponse};
 ghost use Rattle.layout.specs.Layout.{kindIn};
-ghost use Rattle.abi.specs.Heard.{numbersHeard, heardParsed, placesOf, heardPlaces, heardTest};
+ghost use Rattle.heard.specs.Heard.{numbersHeard, heardParsed, placesOf, heardPlaces, heardTest};
 
 // The fields up to the check field, and what the body is: of a plain command, of a ciphered one, of either, and of a response.
 fn put_plain_command(

@@ -1,11 +1,11 @@
 // What goes out of a response.
-use crate::hear;
+use heard::hear;
 use types::Announcing;
 use types::Outgoing;
 use types::Spi;
 ghost use mathlib.Core.Path.{_≡_};
 ghost use Rattle.report.specs.Reporting.{toldOutgoing, toldAnnouncing, writeReport, responseAnnounces};
-ghost use Rattle.abi.specs.Heard.{heardGoing, heardReport, heardAnnouncing};
+ghost use Rattle.heard.specs.Heard.{heardGoing, heardReport, heardAnnouncing};
 
 fn outgoing(o: Outgoing, outgoing: &mut [usize; 2]) -> u32
     ensures { λ r. ⌜ (r, now (outgoing .exit)) ≡ heardGoing (toldOutgoing o) ⌝ }

@@ -1,6 +1,6 @@
 // The calls on a state, in place on the caller's octets.
-use crate::hear;
-use crate::parts;
+use heard::hear;
+use heard::parts;
 use types::STATE_OCTETS;
 ghost use mathlib.Core.Path.{_≡_};
 ghost use mathlib.Core.Bool.{_&&_};
@@ -10,8 +10,8 @@ ghost use Rattle.layout.specs.Layout.{kindIn, stateRecord, known, makingState};
 ghost use Rattle.sound.specs.Card.{beatIn};
 ghost use Rattle.series.specs.Calls as input;
 ghost use Rattle.card.specs.Card.{takeIn};
-ghost use Rattle.abi.specs.Given.{octetIn};
-ghost use Rattle.abi.specs.Heard.{heardTest, heardMade, heardBeaten, heardState};
+ghost use Rattle.heard.specs.Given.{octetIn};
+ghost use Rattle.heard.specs.Heard.{heardTest, heardMade, heardBeaten, heardState};
 
 // Makes a state with no series and five slots.
 #[no_mangle]

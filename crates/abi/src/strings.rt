@@ -1,15 +1,15 @@
 // USSD strings: a command read, its parts shown, written, and the octets of its checksum.
 use crate::CLEAR_FIELDS;
 use crate::COMMAND_FIELDS;
-use crate::hear;
 use crate::packets;
-use crate::parts;
+use heard::hear;
+use heard::parts;
 ghost use mathlib.Core.Path.{_≡_};
 ghost use Rattle.types.specs.declared.Kind.the-variants.{Command};
 ghost use Rattle.packet.specs.Packets.{plain, ciphered};
 ghost use Rattle.ussd.specs.Ussd.{readUssd, writtenUssd, ussdChecksummed};
-ghost use Rattle.abi.specs.Given.{clearGiven, commandGiven};
-ghost use Rattle.abi.specs.Heard.{heardParsed, heardWritten};
+ghost use Rattle.heard.specs.Given.{clearGiven, commandGiven};
+ghost use Rattle.heard.specs.Heard.{heardParsed, heardWritten};
 
 // Reads a string that came with this DCS, for the application of this PFI.
 #[no_mangle]

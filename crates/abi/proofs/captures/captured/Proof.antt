@@ -1,5 +1,5 @@
 -- `captured` meets its contract: in each arm the answer is known, and what is put into the lent numbers is what is heard of it. Assumes nothing.
-use Rattle.abi.proofs.Steps.{steps}
+use Rattle.heard.specs.Steps.{steps}
 use Rattle.abi.proofs.captures.captured.Statement.{statement}
 use Rattle.abi.proofs.captures.captured.Tie as tie
 

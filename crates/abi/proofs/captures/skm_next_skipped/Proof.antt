@@ -1,5 +1,5 @@
 -- `skm_next_skipped` meets its contract: the run is the rule's, and so are its three numbers. Assumes nothing.
-use Rattle.abi.proofs.Steps.{steps}
+use Rattle.heard.specs.Steps.{steps}
 use Rattle.abi.proofs.captures.skm_next_skipped.Statement.{statement}
 use Rattle.abi.proofs.captures.skm_next_skipped.Tie as tie
 

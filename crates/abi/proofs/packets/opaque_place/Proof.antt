@@ -1,5 +1,5 @@
 -- `opaque_place` meets its contract: the kind is one or the other. Assumes nothing.
-use Rattle.abi.proofs.Steps.{steps}
+use Rattle.heard.specs.Steps.{steps}
 use Rattle.abi.proofs.packets.opaque_place.Statement.{statement}
 use Rattle.abi.proofs.packets.opaque_place.Tie as tie
 

@@ -1,5 +1,5 @@
 -- `put_command` meets its contract: in each arm the body is known, and what is put is what is heard of it. Assumes nothing.
-use Rattle.abi.proofs.Steps.{steps}
+use Rattle.heard.specs.Steps.{steps}
 use Rattle.abi.proofs.packets.put_command.Statement.{statement}
 use Rattle.abi.proofs.packets.put_command.Tie as tie
 

@@ -1,5 +1,5 @@
 -- `put_opaque` meets its contract: the part is that of the rule, so its length is too. Assumes nothing.
-use Rattle.abi.proofs.Steps.{steps}
+use Rattle.heard.specs.Steps.{steps}
 use Rattle.abi.proofs.packets.put_opaque.Statement.{statement}
 use Rattle.abi.proofs.packets.put_opaque.Tie as tie
 

@@ -1,5 +1,5 @@
 -- `put_places` meets its contract: the body is one or the other. Assumes nothing.
-use Rattle.abi.proofs.Steps.{steps}
+use Rattle.heard.specs.Steps.{steps}
 use Rattle.abi.proofs.packets.put_places.Statement.{statement}
 use Rattle.abi.proofs.packets.put_places.Tie as tie
 

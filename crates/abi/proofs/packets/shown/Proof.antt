@@ -1,5 +1,5 @@
 -- `shown` meets its contract: a packet that cannot be read is refused as in reading; of one that can be read the places are put. Assumes nothing.
-use Rattle.abi.proofs.Steps.{steps}
+use Rattle.heard.specs.Steps.{steps}
 use Rattle.abi.proofs.packets.shown.Statement.{statement}
 use Rattle.abi.proofs.packets.shown.Tie as tie
 

@@ -1,5 +1,5 @@
 -- `skm_packet_formed` meets its contract: the test is the rule's, of the kind that the number is. Assumes nothing.
-use Rattle.abi.proofs.Steps.{steps}
+use Rattle.heard.specs.Steps.{steps}
 use Rattle.abi.proofs.packets.skm_packet_formed.Statement.{statement}
 use Rattle.abi.proofs.packets.skm_packet_formed.Tie as tie
 

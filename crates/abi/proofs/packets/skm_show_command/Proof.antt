@@ -1,5 +1,5 @@
 -- `skm_show_command` meets its contract: the command says itself whether it is ciphered. Assumes nothing.
-use Rattle.abi.proofs.Steps.{steps}
+use Rattle.heard.specs.Steps.{steps}
 use Rattle.abi.proofs.packets.skm_show_command.Statement.{statement}
 use Rattle.abi.proofs.packets.skm_show_command.Tie as tie
 

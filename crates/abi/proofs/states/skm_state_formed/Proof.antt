@@ -1,5 +1,5 @@
 -- `skm_state_formed` meets its contract: the test is the rule's. Assumes nothing.
-use Rattle.abi.proofs.Steps.{steps}
+use Rattle.heard.specs.Steps.{steps}
 use Rattle.abi.proofs.states.skm_state_formed.Statement.{statement}
 use Rattle.abi.proofs.states.skm_state_formed.Tie as tie
 

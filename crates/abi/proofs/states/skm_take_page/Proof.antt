@@ -1,5 +1,5 @@
 -- `skm_take_page` meets its contract: the call's answer is the rule's outcome, and what is heard of the one is heard of the other. Assumes nothing.
-use Rattle.abi.proofs.Steps.{steps}
+use Rattle.heard.specs.Steps.{steps}
 use Rattle.abi.proofs.states.skm_take_page.Statement.{statement}
 use Rattle.abi.proofs.states.skm_take_page.Tie as tie
 

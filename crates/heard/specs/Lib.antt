@@ -1,0 +1,5 @@
+pub mod Given
+pub mod Heard
+pub mod Laws
+pub mod Back
+pub mod Steps
