@@ -1,30 +1,26 @@
 -- What the proofs of `bench` cite: one law for each return, over plain variables.
 use Prim.Native.Nat.{ℕ}
-use mathlib.Core.Path.{_≡_, refl, sym, ap, _∙_}
-use mathlib.Core.Bool.{Bool, true, false, not, _&&_}
+use mathlib.Core.Path.{_≡_, refl, ap, _∙_}
+use mathlib.Core.Bool.{Bool, true, false, _&&_}
 use mathlib.Core.List.{List}
 use native.Mathlib.Omega.{arith}
 use lib.ListN.{take, getD, set}
 use borrow.Author.Needs.{needs}
-use borrow.Author.Tests.{eq-eqb, ne-eqb, not-true, not-false}
+use borrow.Author.Tests.{eq-eqb, ne-eqb}
 use Rattle.types.specs.declared.Record.{Record}
 use Rattle.types.specs.declared.Slot.{Slot}
 use Rattle.skelmarix.specs.Rules.{slotAt, withSlots}
 use Rattle.words.specs.declared.line.Line.{Line}
-use Rattle.words.specs.Line.{Gathered, gathered, silent, Reads}
+use Rattle.words.specs.Line.{Gathered, gathered, Reads}
 use Rattle.values.specs.Meaning.{meant}
 use Rattle.changes.specs.declared.Bench.{Bench}
 use Rattle.changes.specs.Kept.{held, withRecord, rowChanges}
 use Rattle.bench.specs.declared.Heard.{Heard}
 use Rattle.bench.specs.Lines as rule
-use Rattle.bench.specs.Lines.{LineLeaves, SlotPut, ReadSo, Untouched}
+use Rattle.bench.specs.Lines.{LineMade, SlotPut, ReadSo, Untouched}
 
 clash : (b : Bool) → b ≡ true → b ≡ false → ⊥
 clash b p q = let z : _≡_ {A = ℕ} 0 1 = cc in omega arith
-
-pub done-told : (row count n m : ℕ) (octets o : List ℕ) (b c d : Bench) (cells output cells′ output′ : List ℕ) → n ≡ m → octets ≡ o → d ≡ c
-    → held c cells′ output′ ≡ rowChanges row count n octets (held b cells output) → held d cells′ output′ ≡ rowChanges row count m o (held b cells output)
-done-told row count n m octets o b c d cells output cells′ output′ e f g h = rw (g, ← e, ← f) h
 
 -- ---- putting a slot
 pub put-told : (b b′ : Bench) (i : ℕ) (x : Slot) (q : Record) (z : Heard) → q ≡ withSlots (b .«record») (set (b .«record» .slots) i x)
@@ -50,38 +46,15 @@ module _ (l : Line) (line line′ octets : List ℕ) (n : ℕ) (m : Bool) where
           ≡ rule.meantBy (gathered l line′)
       step = rw (g, f, e)
 
--- ---- all lines
-module _ (line : List ℕ) (b : Bench) (cells output : List ℕ) (z : Heard) (t : Bool) (is : t ≡ silent line) where
-  pub leaves-nothing : t ≡ true → z .bench ≡ b → z .understood ≡ true → LineLeaves line b cells output z cells output
-  leaves-nothing e f g = rule.nothing (sym is ∙ e) g (rw f)
+-- ---- making its call
+module _ (s : Gathered) (b : Bench) (cells output : List ℕ) (z : Heard) where
+  pub made-slot : s .row ≡ 13 → SlotPut s b z → LineMade s b cells output z cells output
+  made-slot e p = rule.slot (eq-eqb (s .row) 13 e) p refl refl
 
-  module _ (e : t ≡ false) (l : Line) (line′ : List ℕ) (r : ReadSo l line line′) where
-    understood-is : l .understood ≡ rule.lineSays line .understood
-    understood-is = ap (λ (s : Gathered). s .understood) (r .is)
-
-    pub leaves-unclear : not (l .understood) ≡ true → z .bench ≡ b → z .understood ≡ false → LineLeaves line b cells output z cells output
-    leaves-unclear f g h =
-        let no : rule.lineSays line .understood ≡ false = sym understood-is ∙ not-true (l .understood) f in
-        rule.elsewhere (sym is ∙ e) (rw no) (h ∙ sym no) (rw (no, g))
-
-    module _ (f : not (l .understood) ≡ false) where
-      yes : rule.lineSays line .understood ≡ true
-      yes = sym understood-is ∙ not-false (l .understood) f
-
-      row-is : l .row ≡ rule.lineSays line .row
-      row-is = ap (λ (s : Gathered). s .row) (r .is)
-
-      pub leaves-slot : l .row ≡ 13 → SlotPut (gathered l line′) b z → LineLeaves line b cells output z cells output
-      leaves-slot g p = rule.slot (sym is ∙ e) (rw (yes, ← row-is) (eq-eqb (l .row) 13 g)) (rw (r .is) at p) refl refl
-
-      pub leaves-other : (cells′ output′ : List ℕ) → (l .row ≡ 13 → ⊥) → z .understood ≡ true
-          → held (z .bench) cells′ output′ ≡ rowChanges (l .row) (l .count) (getD (l .values) 0 0) (take (l .end) line′) (held b cells output)
-          → LineLeaves line b cells output z cells′ output′
-      leaves-other cells′ output′ g h k =
-          let values-is : l .values ≡ rule.lineSays line .values = ap (λ (s : Gathered). s .values) (r .is) in
-          let count-is : l .count ≡ rule.lineSays line .count = ap (λ (s : Gathered). s .count) (r .is) in
-          let octets-is : take (l .end) line′ ≡ rule.lineSays line .octets = ap (λ (s : Gathered). s .octets) (r .is) in
-          rule.elsewhere (sym is ∙ e) (rw (yes, ← row-is) (ne-eqb (l .row) 13 g)) (h ∙ sym yes) (rw (yes, ← row-is, ← count-is, ← values-is, ← octets-is) k)
+  pub made-other : (n : ℕ) (octets : List ℕ) (c : Bench) (cells′ output′ : List ℕ) → (s .row ≡ 13 → ⊥) → octets ≡ s .octets → n ≡ getD (s .values) 0 0
+      → held c cells′ output′ ≡ rowChanges (s .row) (s .count) n octets (held b cells output) → z .bench ≡ c → z .understood ≡ true
+      → LineMade s b cells output z cells′ output′
+  made-other n octets c cells′ output′ e f g h i u = rule.elsewhere (ne-eqb (s .row) 13 e) u (rw (i, ← g, ← f) h)
 
 -- a line that is understood may write to the buffer; one that is not has not
 module _ (u : Bool) (before : List ℕ) where
@@ -93,15 +66,12 @@ module _ (u : Bool) (before : List ℕ) where
 
 pub ruleset steps = (
   needs,
-  done-told,
   put-told,
   slot-put,
   slot-kept,
   says-told,
-  leaves-nothing,
-  leaves-unclear,
-  leaves-slot,
-  leaves-other,
+  made-slot,
+  made-other,
   heard,
   unheard,
 )

@@ -1,8 +1,8 @@
-// The bench: a line of text is a call of the library, and its answer is a line of text again. From line to line a record, the cells, the output
-// and the buffer are kept, the tables of counters and of outstanding commands, and how much of each buffer is lent.
+// The bench of one engine: a line of text is a call of the library, and its answer is a line of text again. From line to line a record, the cells, the
+// output and the buffer are kept, the tables of counters and of outstanding commands, and how much of each buffer is lent.
 mod asks;
 mod shows;
-mod slots;
+pub mod slots;
 
 use changes::Bench;
 pub use changes::start;
@@ -11,9 +11,9 @@ use words::line::VALUES;
 use words::table;
 ghost use mathlib.Core.Path.{_≡_};
 ghost use mathlib.Core.Bool.{true, false};
-ghost use lib.ListN.{getD, take};
-ghost use Rattle.changes.specs.Kept.{held, rowChanges};
-ghost use Rattle.bench.specs.Lines.{LineLeaves, ReadSo, Untouched};
+ghost use lib.ListN.{getD};
+ghost use Rattle.words.specs.Line.{gathered};
+ghost use Rattle.bench.specs.Lines.{LineMade, ReadSo, Untouched};
 
 // The result of a line: what is kept afterwards, and where the text ends with its answer.
 pub struct Heard {
@@ -44,34 +44,14 @@ pub(crate) fn unanswered(b: Bench, at: usize) -> Heard
 }
 
 // The first number of a line.
-pub(crate) fn first(values: [u64; VALUES]) -> usize
+pub fn first(values: [u64; VALUES]) -> usize
     ensures { λ r. ⌜ r ≡ getD values 0 0 ⌝ }
 {
     values[0] as usize
 }
 
-// Makes the call that a line asks for, one that puts no slot, and prints its answer.
-fn done(
-    l: Line,
-    line: &[u8],
-    b: Bench,
-    cells: &mut [u8],
-    output: &mut [u8],
-    buffer: &mut [u8],
-    text: &mut [u8],
-    at: usize,
-) -> Heard
-    ensures { λ r. ⌜ (r .understood ≡ true) × (held (r .bench) (now (cells .exit)) (now (output .exit)) ≡ rowChanges (l .row) (l .count) (getD (l .values) 0 0) (take (l .end) (now (line .entry))) (held b (now (cells .entry)) (now (output .entry)))) ⌝ }
-{
-    let octets = skelmarix::first_octets(line, l.end);
-    let values = l.values;
-    let made = changes::change(l.row, l.count, first(values), octets, b, cells, output);
-    let end = asks::say(l, octets, made, cells, output, buffer, text, at);
-    answered(made.bench, end)
-}
-
-// Reads a line; it is understood only if its words can be meant.
-fn read(line: &mut [u8]) -> Line
+// Reads a line; it is understood only if its words can be meant. The line's octets are read to its own start.
+pub fn read(line: &mut [u8]) -> Line
     ensures { λ r. ⌜ ReadSo r (now (line .entry)) (now (line .exit)) ⌝ }
 {
     let mut l = words::line::read(line);
@@ -81,9 +61,10 @@ fn read(line: &mut [u8]) -> Line
     l
 }
 
-// Answers a line behind the text up to `at`. The line's octets are read to its own start.
-pub fn answer(
-    line: &mut [u8],
+// Makes the call that a line asks for which was read and understood, and prints its answer behind the text up to `at`.
+pub fn make(
+    l: Line,
+    line: &[u8],
     b: Bench,
     cells: &mut [u8],
     output: &mut [u8],
@@ -91,18 +72,15 @@ pub fn answer(
     text: &mut [u8],
     at: usize,
 ) -> Heard
-    ensures { λ r. ⌜ LineLeaves (now (line .entry)) b (now (cells .entry)) (now (output .entry)) r (now (cells .exit)) (now (output .exit)) ⌝ }
+    ensures { λ r. ⌜ LineMade (gathered l (now (line .entry))) b (now (cells .entry)) (now (output .entry)) r (now (cells .exit)) (now (output .exit)) ⌝ }
     ensures { λ r. ⌜ Untouched (r .understood) (now (buffer .entry)) (now (buffer .exit)) ⌝ }
 {
-    if words::line::is_silent(line) {
-        return answered(b, at);
-    }
-    let l = read(line);
-    if !l.understood {
-        return unanswered(b, at);
-    }
     if l.row == table::SLOT {
         return slots::slot_line(b, l, line, text, at);
     }
-    done(l, line, b, cells, output, buffer, text, at)
+    let octets = skelmarix::first_octets(line, l.end);
+    let values = l.values;
+    let made = changes::change(l.row, l.count, first(values), octets, b, cells, output);
+    let end = asks::say(l, octets, made, cells, output, buffer, text, at);
+    answered(made.bench, end)
 }

@@ -37,7 +37,7 @@ fn put(b: Bench, i: usize, x: Slot, text: &mut [u8], at: usize) -> Heard
 }
 
 // A line whose words before the parts are understood.
-pub(crate) fn slot_line(b: Bench, l: Line, line: &[u8], text: &mut [u8], at: usize) -> Heard
+pub fn slot_line(b: Bench, l: Line, line: &[u8], text: &mut [u8], at: usize) -> Heard
     ensures { λ r. ⌜ SlotPut (gathered l (now (line .entry))) b r ⌝ }
 {
     let parts = words::line::parts_in(line, l.at);

@@ -96,24 +96,30 @@ pub beat-told : (b x : Bench) (limit : ℕ) (a : Beating) (r : Record) → x ≡
 beat-told b x limit a r e f = rw (← f) e
 
 -- ---- lending and numbering
-module _ (row n : ℕ) (b : Bench) where
-  pub note-lends : (c : Bench) → (ltb 7 row && ltb row 11) ≡ true → c ≡ rule.withLent b (set (b .lent) (row - 8) n) → c ≡ rule.lentNoted row n b
-  note-lends c e f = rw e f
+module _ (row n : ℕ) (b c : Bench) where
+  pub row-right : row ≡ 11 → c ≡ rule.withLent b rule.allRight → c ≡ rule.rowNoted row n b
+  row-right f g = rw (eq-eqb row 11 f) g
+
+  module _ (f : row ≡ 11 → ⊥) where
+    pub row-number : row ≡ 12 → c ≡ rule.nowNumbered b → c ≡ rule.rowNoted row n b
+    row-number g h = rw (ne-eqb row 11 f, eq-eqb row 12 g) h
+
+    module _ (g : row ≡ 12 → ⊥) where
+      pub row-slots : row ≡ 50 → c ≡ rule.withRecord b (rule.withCount (b .«record») (n % 256)) → c ≡ rule.rowNoted row n b
+      row-slots h i = rw (ne-eqb row 11 f, ne-eqb row 12 g, eq-eqb row 50 h) i
+
+  pub note-lends : (ltb 7 row && ltb row 11) ≡ true → c ≡ rule.withLent b (set (b .lent) (row - 8) n) → c ≡ rule.lentNoted row n b
+  note-lends e f = rw e f
 
   module _ (e : (ltb 7 row && ltb row 11) ≡ false) where
-    pub note-right : row ≡ 11 → rule.withLent b rule.allRight ≡ rule.lentNoted row n b
-    note-right f = rw (e, eq-eqb row 11 f)
+    pub note-log : row ≡ 73 → c ≡ rule.withLent b (set (b .lent) 3 n) → c ≡ rule.lentNoted row n b
+    note-log f g = rw (e, eq-eqb row 73 f) g
 
-    module _ (f : row ≡ 11 → ⊥) where
-      pub note-number : row ≡ 12 → rule.nowNumbered b ≡ rule.lentNoted row n b
-      note-number g = rw (e, ne-eqb row 11 f, eq-eqb row 12 g)
+    pub note-row : (row ≡ 73 → ⊥) → c ≡ rule.rowNoted row n b → c ≡ rule.lentNoted row n b
+    note-row f g = rw (e, ne-eqb row 73 f) g
 
-      module _ (g : row ≡ 12 → ⊥) where
-        pub note-slots : (c : Bench) → row ≡ 50 → c ≡ rule.withRecord b (rule.withCount (b .«record») (n % 256)) → c ≡ rule.lentNoted row n b
-        note-slots c h i = rw (e, ne-eqb row 11 f, ne-eqb row 12 g, eq-eqb row 50 h) i
-
-        pub note-none : (row ≡ 50 → ⊥) → b ≡ rule.lentNoted row n b
-        note-none h = rw (e, ne-eqb row 11 f, ne-eqb row 12 g, ne-eqb row 50 h)
+pub row-none : (row n : ℕ) (b : Bench) → (row ≡ 11 → ⊥) → (row ≡ 12 → ⊥) → (row ≡ 50 → ⊥) → b ≡ rule.rowNoted row n b
+row-none row n b f g h = rw (ne-eqb row 11 f, ne-eqb row 12 g, ne-eqb row 50 h)
 
 module _ (row : ℕ) (e : (ltb 7 row && ltb row 11) ≡ true) where
   both : (a b : Bool) → a && b ≡ true → (a ≡ true) × (b ≡ true)
@@ -123,7 +129,7 @@ module _ (row : ℕ) (e : (ltb 7 row && ltb row 11) ≡ true) where
   pub lends-low : 8 ≤ row
   lends-low = ltb-true 7 row (both (ltb 7 row) (ltb row 11) e .0)
 
-  pub lends-high : row - 8 < 3
+  pub lends-high : row - 8 < 4
   lends-high = omega (arith, lends-low, ltb-true row 11 (both (ltb 7 row) (ltb row 11) e .1))
 
 -- ---- counters, outstanding commands and the beat, by the row
@@ -177,11 +183,13 @@ module _ (row count n : ℕ) (octets : List ℕ) (b c : Bench) (cells output cel
 
 pub ruleset noting = (
   needs,
+  row-right,
+  row-number,
+  row-slots,
+  row-none,
   note-lends,
-  note-right,
-  note-number,
-  note-slots,
-  note-none,
+  note-log,
+  note-row,
   lends-low,
   lends-high,
 )

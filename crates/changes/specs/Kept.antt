@@ -27,9 +27,9 @@ pub record Held : Type 0 where
 abbrev pub held : Bench → List ℕ → List ℕ → Held
 held b cells output = record { bench = b; cells = cells; output = output }
 
--- cells, output and buffer are lent with the right numbers
+-- cells, output, buffer and log are lent with the right numbers
 abbrev pub allRight : List ℕ
-allRight = right ∷ right ∷ right ∷ []
+allRight = right ∷ right ∷ right ∷ right ∷ []
 
 abbrev pub atStart : Bench
 atStart = record { «record» = freshRecord defaultSlots Command; counters = noCounters; outstanding = noCommands; lent = allRight; numbered = false }
@@ -82,13 +82,18 @@ freshMade k n h = cond (isSlotNumber n) (allFilled h (withRecord (h .bench) (fre
 abbrev pub withCount : Record → ℕ → Record
 withCount r n = record { kind = r .kind; count = n; slots = r .slots }
 
--- rows 8 to 10 `lend cells N`, `lend output N`, `lend buffer N`, row 11 `lend right`, row 12 `number`, row 50 `slots N`
+-- row 11 `lend right`, row 12 `number`, row 50 `slots N`
+abbrev pub rowNoted : ℕ → ℕ → Bench → Bench
+rowNoted row n b =
+    cond (eqb row 11) (withLent b allRight)
+    (cond (eqb row 12) (nowNumbered b)
+    (cond (eqb row 50) (withRecord b (withCount (b .«record») (n % 256))) b))
+
+-- and rows 8 to 10 `lend cells N`, `lend output N`, `lend buffer N`, row 73 `lend log N`
 abbrev pub lentNoted : ℕ → ℕ → Bench → Bench
 lentNoted row n b =
     cond (ltb 7 row && ltb row 11) (withLent b (set (b .lent) (row - 8) n))
-    (cond (eqb row 11) (withLent b allRight)
-    (cond (eqb row 12) (nowNumbered b)
-    (cond (eqb row 50) (withRecord b (withCount (b .«record») (n % 256))) b)))
+    (cond (eqb row 73) (withLent b (set (b .lent) 3 n)) (rowNoted row n b))
 
 -- the lines that leave cells and output as they are; row 56 `beat LIMIT`
 abbrev pub keptNotes : ℕ → ℕ → ℕ → List ℕ → Bench → Bench

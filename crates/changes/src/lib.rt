@@ -15,13 +15,13 @@ ghost use Rattle.lines.specs.Lent.{lentOf};
 ghost use Rattle.changes.specs.Kept as rule;
 ghost use Rattle.changes.specs.Kept.{atStart, held, called, heldTaken, rowChanges, withRecord, freshMade};
 
-// What is kept beside the buffers: the record, the tables of counters and of outstanding commands, how many octets of cells, output and buffer are
-// lent (`RIGHT` means the right number), and whether answers are numbered.
+// What is kept beside the buffers: the record, the tables of counters and of outstanding commands, how many octets of cells, output, buffer and log
+// are lent (`RIGHT` means the right number), and whether answers are numbered.
 pub struct Bench {
     pub record: Record,
     pub counters: types::Counters,
     pub outstanding: types::Outstanding,
-    pub lent: [usize; 3],
+    pub lent: [usize; 4],
     pub numbered: bool,
 }
 
@@ -39,7 +39,7 @@ pub fn start() -> Bench
         record: skelmarix::fresh_record(types::Kind::Command),
         counters: skelmarix::no_counters(),
         outstanding: skelmarix::no_commands(),
-        lent: [lines::RIGHT; 3],
+        lent: [lines::RIGHT; 4],
         numbered: false,
     }
 }

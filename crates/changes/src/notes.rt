@@ -11,14 +11,30 @@ ghost use lib.ListN.{set};
 ghost use Rattle.skelmarix.specs.Rules.{beat};
 ghost use Rattle.values.specs.Tables.{countersBy, commandsAfter};
 ghost use Rattle.changes.specs.Kept as rule;
-ghost use Rattle.changes.specs.Kept.{lentNoted, withRecord, withCount, withLent, withCounters, withOutstanding};
+ghost use Rattle.changes.specs.Kept.{allRight, rowNoted, lentNoted, nowNumbered, withRecord, withCount, withLent, withCounters, withOutstanding};
 
 fn lend(b: Bench, i: usize, n: usize) -> Bench
-    requires { ⌜ i < 3 ⌝ }
+    requires { ⌜ i < 4 ⌝ }
     ensures { λ r. ⌜ r ≡ withLent b (set (b .lent) i n) ⌝ }
 {
     let mut c = b;
     c.lent[i] = n;
+    c
+}
+
+fn lend_right(b: Bench) -> Bench
+    ensures { λ r. ⌜ r ≡ withLent b allRight ⌝ }
+{
+    let mut c = b;
+    c.lent = [lines::RIGHT; 4];
+    c
+}
+
+fn number(b: Bench) -> Bench
+    ensures { λ r. ⌜ r ≡ nowNumbered b ⌝ }
+{
+    let mut c = b;
+    c.numbered = true;
     c
 }
 
@@ -31,25 +47,31 @@ fn with_count(b: Bench, n: usize) -> Bench
     with_record(b, r)
 }
 
+fn note_row(row: usize, n: usize, b: Bench) -> Bench
+    ensures { λ r. ⌜ r ≡ rowNoted row n b ⌝ }
+{
+    if row == table::LEND_RIGHT {
+        return lend_right(b);
+    }
+    if row == table::NUMBER {
+        return number(b);
+    }
+    if row == table::SLOTS {
+        return with_count(b, n);
+    }
+    b
+}
+
 fn note(row: usize, n: usize, b: Bench) -> Bench
     ensures { λ r. ⌜ r ≡ lentNoted row n b ⌝ }
 {
     if (table::LEND_CELLS - 1 < row) & (row < table::LEND_RIGHT) {
         return lend(b, row - table::LEND_CELLS, n);
     }
-    let mut c = b;
-    if row == table::LEND_RIGHT {
-        c.lent = [lines::RIGHT; 3];
-        return c;
+    if row == table::LEND_LOG {
+        return lend(b, 3, n);
     }
-    if row == table::NUMBER {
-        c.numbered = true;
-        return c;
-    }
-    if row == table::SLOTS {
-        return with_count(b, n);
-    }
-    b
+    note_row(row, n, b)
 }
 
 // What a line answers that took nothing.

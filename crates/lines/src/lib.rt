@@ -94,7 +94,7 @@ fn made(l: Line, fields: &[u8], out: &mut [u8]) -> Row {
 fn writes(row: usize) -> bool {
     ((table::SUM_COMMAND <= row) & (row <= table::WRITE_PAGE))
         | (row == table::REPORT)
-        | (table::SUM_USSD <= row)
+        | ((table::SUM_USSD <= row) & (row <= table::WRITE_CIPHERED_USSD))
 }
 
 // What a line answers, the packets' apart; `row` is what was made of it already, and of the buffer `size` octets are lent. A line that fills fills the

@@ -46,8 +46,8 @@ fn report(wrong: u64) {
 
 fn main() {
     let mut piece = io::large_buffer();
-    let mut cells = [0u8; 16384];
-    let mut output = [0u8; 16384];
+    let mut cells = [0u8; 49152];
+    let mut output = [0u8; 49152];
     let mut buffer = [0u8; 16384];
     let mut text = io::large_buffer();
     let wrong = read_all(

@@ -2,7 +2,7 @@
 // promised but that every call is safe.
 pub mod piece;
 
-use changes::Bench;
+use chosen::Chosen;
 use libc::STDOUT_FILENO;
 use words::input;
 use words::input::Input;
@@ -23,7 +23,7 @@ pub struct Tally {
 
 // What is kept from line to line.
 pub struct Session {
-    bench: Bench,
+    chosen: Chosen,
     pub tally: Tally,
 }
 
@@ -113,14 +113,14 @@ pub fn take(
     buffer: &mut [u8],
     text: &mut [u8],
 ) -> Session {
-    let t = begin(s.tally, end, s.bench.numbered, text);
+    let t = begin(s.tally, end, s.chosen.bench.numbered, text);
     if input::is_long(t.input, line) {
         return with_tally(s, pass(t, line, text));
     }
-    let h = bench::answer(line, s.bench, cells, output, buffer, text, t.at);
-    let after = h.bench;
+    let h = chosen::answer(line, s.chosen, cells, output, buffer, text, t.at);
+    let after = h.chosen;
     Session {
-        bench: after,
+        chosen: after,
         tally: heard(t, h.understood, h.end, text),
     }
 }
@@ -135,10 +135,8 @@ pub fn refill(t: Tally, piece: &mut [u8], text: &[u8]) -> Tally {
 
 // The session to begin with.
 pub fn start(numbers: bool) -> Session {
-    let mut b = bench::start();
-    b.numbered = numbers;
     Session {
-        bench: b,
+        chosen: chosen::start(numbers),
         tally: Tally {
             input: input::first(if numbers { 2 } else { 1 }),
             lines: 0,

@@ -1,7 +1,7 @@
 -- What the proofs of `values` cite: one law for each return, over plain variables.
 use Prim.Native.Nat.{ℕ, _+_, _*_, _%_, _≤_, _<_}
 use mathlib.Core.Path.{_≡_, sym, ap, _∙_}
-use mathlib.Core.Bool.{not, cond, _&&_}
+use mathlib.Core.Bool.{not, cond, _&&_, _||_}
 use mathlib.Core.List.{List}
 use lib.ListN.{length, drop, getD, set, List·getD-eq-default}
 use native.Mathlib.Omega.{arith}
@@ -126,7 +126,7 @@ pub own-page : (row : ℕ) → (row ≡ 60 → ⊥) → (row ≡ 1 → ⊥) → 
 own-page row z y = rw (ne-eqb row 60 z, ne-eqb row 1 y)
 
 pub meant-told : (row count n way : ℕ) (octets : List ℕ) → way ≡ meaning.wayOf row octets
-    → (not (eqb row 59 && ltb 1 count && ltb 7 n) && not (eqb way 60)) ≡ meaning.meant row count n octets
+    → (not (eqb row 59 && ltb 1 count && ltb 7 n) && not (eqb way 60) && not (eqb row 74 && (ltb 79 n || ltb 151 (length octets)))) ≡ meaning.meant row count n octets
 meant-told row count n way octets e = rw e
 
 pub asked-five : (count n : ℕ) → count ≡ 0 → 5 ≡ meaning.slotsAsked count n

@@ -102,6 +102,18 @@ const WAITING: u64 = 24739718599;
 
 pub const OUTSTANDING: u64 = 17650035007301063;
 
+pub const ENGINE: u64 = 182691269;
+
+pub const FIRST: u64 = 6605428;
+
+pub const CARD: u64 = 99908;
+
+pub const BOTH: u64 = 81544;
+
+pub const ENTRY: u64 = 5722713;
+
+pub const ENTRIES: u64 = 5860041907;
+
 // ---- rows
 // A name alone, with one value, and with two.
 pub fn plain(name: u64) -> Row {

@@ -143,11 +143,19 @@ rows =
     row 61 "write" (octets 1 then name) ∷
     row 65 "plain" (octets 2 then octets 1 then octets 1 then octets 3 then octets 5 then octets 1 then any then any) ∷
     row 65 "ciphered" (octets 2 then octets 1 then octets 1 then octets 3 then number then any) ∷
+    row 0 "engine" name ∷
+    row 68 "first" end ∷
+    row 68 "card" end ∷
+    row 68 "plain" end ∷
+    row 68 "both" end ∷
+    row 7 "log" upToLent ∷
+    row 0 "entry" (octet then any) ∷
+    row 0 "entries" octet ∷
     []
 
 -- how many there are
 abbrev pub rowCount : ℕ
-rowCount = 68
+rowCount = 76
 
 -- the key of a name behind an earlier row
 abbrev pub nameAfter : ℕ → ℕ → ℕ

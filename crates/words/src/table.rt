@@ -6,7 +6,7 @@ ghost use lib.ListN.{getD};
 ghost use Rattle.words.specs.Table.{rowCount, keys, rowOf, allSorts, mostOf};
 
 // How many rows there are; row 0 is where a line begins, and stands for none.
-const ROWS: usize = 68;
+const ROWS: usize = 76;
 
 // The rows that lines are told apart by.
 pub const MESSAGE: usize = 1;
@@ -24,6 +24,8 @@ pub const NUMBER: usize = 12;
 pub const SLOT: usize = 13;
 
 pub const RECORD: usize = 14;
+
+pub const FORMED: usize = 15;
 
 pub const CELLS: usize = 16;
 
@@ -90,6 +92,16 @@ pub const SUM_USSD: usize = 64;
 pub const WRITE_USSD: usize = 66;
 
 pub const WRITE_CIPHERED_USSD: usize = 67;
+
+pub const ENGINE_FIRST: usize = 69;
+
+pub const ENGINE_BOTH: usize = 72;
+
+pub const LEND_LOG: usize = 73;
+
+pub const ENTRY: usize = 74;
+
+pub const ENTRIES: usize = 75;
 
 // The key of each row: its earlier row and its name.
 const KEYS: [u64; ROWS] = [
@@ -161,6 +173,14 @@ const KEYS: [u64; ROWS] = [
     2197756618181518981,
     2341871806249829678,
     2341871919520991396,
+    182691269,
+    2449958197296155252,
+    2449958197289649732,
+    2449958197306721582,
+    2449958197289631368,
+    252201579132760551,
+    5722713,
+    5860041907,
 ];
 
 // The sorts of the words that follow, six bits each, the first lowest.
@@ -233,6 +253,14 @@ const SORTS: [u64; ROWS] = [
     0x61,
     0x8208658E1862,
     0x8028E1862,
+    0x1,
+    0x0,
+    0x0,
+    0x0,
+    0x0,
+    0x4,
+    0x805,
+    0x5,
 ];
 
 // The greatest number of each sort.

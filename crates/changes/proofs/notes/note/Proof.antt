@@ -6,5 +6,5 @@ use Rattle.changes.proofs.notes.note.Tie as tie
 pub note-spec : {M : Type 1} → statement M
 note-spec =
     tie.close
-    (tie.spec (λ c. search noting) (λ c. search noting) (λ c κs. search noting) (λ c. search noting) (λ c. search noting)
-    (λ c. search noting) (λ c κs. search noting) (λ c. search noting) (λ c. search noting))
+    (tie.spec (λ c. search noting) (λ c. search noting) (λ c κs. search noting) (λ c. search noting) (λ c κs. search noting) (λ c. search noting)
+    (λ c κs. search noting) (λ c. search noting))
