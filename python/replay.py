@@ -1,6 +1,6 @@
 """python/replay.py [SCRIPT ANSWERS]: makes the calls of a script of the bench over the shared object, and compares with the answers that are stored. Without
-words these are crates/replay/stdin and crates/replay/stdout. Lines of tables that the library for C does not have, and lines that the bench does not
-understand, are passed over. Status 1 if an answer differs. docs/BENCH.md has the lines."""
+words these are the files of crates/replay/data, in the order of crates/replay/args, and crates/replay/stdout. Lines of tables that the library for C does
+not have, lines that the bench does not understand, and those of the plain engine are passed over. Status 1 if an answer differs. docs/BENCH.md has the lines."""
 import sys
 from pathlib import Path
 
@@ -194,14 +194,24 @@ class Bench:
             return f"refused {refused.number}"
 
 
-def main(script, answers):
-    bench, compared, faults, numbered = Bench(), 0, 0, False
-    lines = [line for line in Path(script).read_text("latin-1").split("\n") if line.strip() and not line.strip().startswith("#")]
+def stored():
+    """The files of the stored script, and its answers."""
+    folder = TOP / "crates/replay"
+    return [[folder / "data" / name for name in (folder / "args").read_text().split()], folder / "stdout"]
+
+
+def main(scripts, answers):
+    bench, compared, faults, numbered, plain = Bench(), 0, 0, False, False
+    texts = [line for script in scripts for line in Path(script).read_text("latin-1").split("\n")]
+    lines = [line for line in texts if line.strip() and not line.strip().startswith("#")]
     for line, stored in zip(lines, Path(answers).read_text("latin-1").split("\n")):
         stored = stored.split(" ", 1)[1] if numbered else stored
         first = line.split()[0].lower()
         numbered = numbered or first == "number" and stored == "numbered"
-        if stored.startswith("line ") or first in PASSED:
+        if stored.startswith("engine "):
+            plain, bench.state = stored.endswith("plain"), Bench().state
+            bench.store["cells"], bench.store["output"] = bytearray(ROOM), bytearray(ROOM)
+        if plain or stored.startswith(("line ", "engine ")) or first in PASSED:
             continue
         answer = bench.answer(line)
         if answer is None:
@@ -217,4 +227,4 @@ def main(script, answers):
 if __name__ == "__main__":
     if "--help" in sys.argv[1:]:
         sys.exit(print(__doc__))
-    sys.exit(main(*(sys.argv[1:] or [TOP / "crates/replay/stdin", TOP / "crates/replay/stdout"])))
+    sys.exit(main(*([[sys.argv[1]], sys.argv[2]] if sys.argv[1:] else stored())))

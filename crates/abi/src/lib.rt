@@ -24,7 +24,7 @@ pub const TAR_FIELDS: usize = 3;
 // The version of the library, each of its three numbers in an octet.
 #[no_mangle]
 pub extern "C" fn skm_version() -> u32
-    ensures { λ r. ⌜ r ≡ versionNumber 0 9 1 ⌝ }
+    ensures { λ r. ⌜ r ≡ versionNumber 0 10 0 ⌝ }
 {
-    0x000901
+    0x000A00
 }
