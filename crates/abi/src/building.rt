@@ -1,8 +1,8 @@
 // Building packets, and the octets of their checksums. The fields come as octets in the packet's order.
-use crate::CLEAR_FIELDS;
-use crate::COMMAND_FIELDS;
-use crate::RESPONSE_FIELDS;
-use crate::TAR_FIELDS;
+use heard::CLEAR_FIELDS;
+use heard::COMMAND_FIELDS;
+use heard::RESPONSE_FIELDS;
+use heard::TAR_FIELDS;
 use heard::hear;
 use heard::parts;
 ghost use mathlib.Core.Path.{_≡_};

@@ -11,16 +11,6 @@ mod strings;
 ghost use mathlib.Core.Path.{_≡_};
 ghost use Rattle.heard.specs.Given.{versionNumber};
 
-// The octets of a plain command's fields up to its check field: SPI, KIc, KID, TAR, CNTR, PCNTR. The first seven are those of a ciphered one.
-pub const COMMAND_FIELDS: usize = 13;
-
-pub const CLEAR_FIELDS: usize = 7;
-
-// The octets of a plain response's fields up to its check field: TAR, CNTR, PCNTR, status. The first three are those of a ciphered one.
-pub const RESPONSE_FIELDS: usize = 10;
-
-pub const TAR_FIELDS: usize = 3;
-
 // The version of the library, each of its three numbers in an octet.
 #[no_mangle]
 pub extern "C" fn skm_version() -> u32

@@ -1,7 +1,7 @@
 // USSD strings: a command read, its parts shown, written, and the octets of its checksum.
-use crate::CLEAR_FIELDS;
-use crate::COMMAND_FIELDS;
-use crate::packets;
+use heard::CLEAR_FIELDS;
+use heard::COMMAND_FIELDS;
+use heard::fields;
 use heard::hear;
 use heard::parts;
 ghost use mathlib.Core.Path.{_≡_};
@@ -23,7 +23,7 @@ pub extern "C" fn skm_read_ussd(
     ensures { λ r. ⌜ (r, (now (fields .exit), now (body .exit))) ≡ heardParsed Command (readUssd pfi dcs (now (string .entry))) ⌝ }
 {
     let a = skelmarix::read_ussd(pfi, dcs, string);
-    packets::command(a, fields, body)
+    fields::command(a, fields, body)
 }
 
 // Writes a plain command as a string.
