@@ -8,13 +8,11 @@ use heard::places;
 use packet::read;
 use types::Kind;
 ghost use mathlib.Core.Path.{_≡_};
-ghost use mathlib.Core.Bool.{true, false, not};
-ghost use Prim.Native.Nat.{_+_};
+ghost use mathlib.Core.Bool.{not};
 ghost use lib.Dec.{eqb};
-ghost use Rattle.packet.specs.Packets.{before, chl, fieldsOf, wellFormed, cipheredCommand, plainParsed, cipheredParsed, parsing};
-ghost use Rattle.packet.specs.Told.{clearOctets, commandFixed, commandFields, responseFields, toldCommand, toldResponse};
+ghost use Rattle.packet.specs.Packets.{wellFormed, cipheredCommand, parsing};
 ghost use Rattle.layout.specs.Layout.{kindIn};
-ghost use Rattle.heard.specs.Heard.{numbersHeard, heardParsed, placesOf, heardPlaces, heardTest};
+ghost use Rattle.heard.specs.Heard.{heardParsed, heardPlaces, heardTest};
 
 // Whether a packet is well formed: 0, or 9.
 #[no_mangle]

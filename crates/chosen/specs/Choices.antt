@@ -1,21 +1,20 @@
 -- What a line leaves if an engine is chosen: a line of another engine is not understood; a choice makes everything fresh; the first engine leaves what its
 -- own lines leave, in its own region. What the two others keep, and all that is printed, is held to stored lines and not promised.
 use Prim.Native.Nat.{ℕ, _-_}
-use mathlib.Core.Bool.{Bool, true, false, cond, _&&_}
-use mathlib.Core.List.{List, _++_}
+use mathlib.Core.Bool.{Bool, true, false, _&&_}
+use mathlib.Core.List.{List}
 use mathlib.Core.Path.{_≡_}
-use lib.Dec.{ltb, leb}
-use lib.ListN.{length, take, drop, replicate}
+use lib.Dec.{leb}
+use lib.ListN.{length, replicate}
 use Rattle.types.specs.declared.Kind.the-variants.{Command}
 use Rattle.skelmarix.specs.Rules.{defaultSlots, freshRecord}
-use Rattle.words.specs.Line.{Gathered, silent}
+use Rattle.words.specs.Line.{silent}
 use Rattle.values.specs.Meaning.{suits}
-use Rattle.changes.specs.declared.Bench.{Bench}
 use Rattle.changes.specs.Kept.{withRecord}
-use Rattle.bench.specs.declared.Heard.{Heard}
-use Rattle.bench.specs.Lines.{LineMade, lineSays}
-use Rattle.chosen.specs.declared.Chosen.{Chosen}
-use Rattle.chosen.specs.declared.Told.{Told}
+use Rattle.bench.specs.Lines.{lineSays}
+use Rattle.regions.specs.Regions.{FirstMade}
+use Rattle.regions.specs.declared.Chosen.{Chosen}
+use Rattle.regions.specs.declared.Told.{Told}
 
 -- a line that was read is understood if the engine that answers has lines of its row
 abbrev pub understoodBy : ℕ → Bool → ℕ → Bool
@@ -24,25 +23,6 @@ understoodBy engine understood row = understood && suits engine row
 -- rows 69 to 72 `engine first`, `engine card`, `engine plain`, `engine both`
 abbrev pub engineRow : ℕ → Bool
 engineRow row = leb 69 row && leb row 72
-
--- ---- the first engine
--- its region is the first 16,384 octets, of cells and of output
-abbrev pub regionEnd : ℕ → ℕ
-regionEnd all = cond (ltb 16384 all) 16384 all
-
-abbrev pub withBench : Chosen → Bench → Chosen
-withBench c b = record { bench = b; engine = c .engine; others = c .others }
-
--- it leaves what the line leaves of its own regions, `own` and `sent`, and all behind them as it was
-pub record FirstMade (s : Gathered) (c : Chosen) (cells output : List ℕ) (r : Told) (cells′ output′ : List ℕ) : Type 0 where
-  pub answer : Heard
-  pub own : List ℕ
-  pub sent : List ℕ
-  pub leaves : LineMade s (c .bench) (take (regionEnd (length cells)) cells) (take (regionEnd (length output)) output) answer own sent
-  pub is : r .chosen ≡ withBench c (answer .bench)
-  pub heard : r .understood ≡ answer .understood
-  pub cells-are : cells′ ≡ own ++ drop (regionEnd (length cells)) cells
-  pub output-is : output′ ≡ sent ++ drop (regionEnd (length output)) output
 
 -- ---- choosing
 -- engine e answers, and the record of the first is a fresh one

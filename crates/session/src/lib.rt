@@ -2,8 +2,8 @@
 // promised but that every call is safe.
 pub mod piece;
 
-use chosen::Chosen;
 use libc::STDOUT_FILENO;
+use regions::Chosen;
 use words::input;
 use words::input::Input;
 

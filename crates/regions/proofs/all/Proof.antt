@@ -1,7 +1,7 @@
 -- Every buffer stays as long as it was. Assumes nothing.
-use Rattle.chosen.proofs.Steps.{steps}
-use Rattle.chosen.proofs.all.Statement.{statement}
-use Rattle.chosen.proofs.all.Tie as tie
+use Rattle.regions.proofs.Steps.{steps}
+use Rattle.regions.proofs.all.Statement.{statement}
+use Rattle.regions.proofs.all.Tie as tie
 
 same-length-5 : tie.Need-same-length-5
 same-length-5 c =

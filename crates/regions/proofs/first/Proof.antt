@@ -1,7 +1,7 @@
 -- What its region holds afterwards stands before the rest. Assumes nothing.
-use Rattle.chosen.proofs.Steps.{steps}
-use Rattle.chosen.proofs.first.Statement.{statement}
-use Rattle.chosen.proofs.first.Tie as tie
+use Rattle.regions.proofs.Steps.{steps}
+use Rattle.regions.proofs.first.Statement.{statement}
+use Rattle.regions.proofs.first.Tie as tie
 
 returns : tie.Need-returns
 returns c =
