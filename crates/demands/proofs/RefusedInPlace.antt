@@ -19,7 +19,7 @@ use Rattle.arrival.specs.Keys.{ofPages}
 use Rattle.joined.specs.Fronts.{packetIn}
 use Rattle.slots.specs.Slots.{isSlotNumber, freshRecord}
 use Rattle.beats.specs.Beats.{beaten, beat}
-use Rattle.series.specs.Taking.{State, Answer, state, kept, heldAlready, packet, refusedBy, refuse}
+use Rattle.series.specs.Taking.{State, Answer, state, kept, heldAlready, refusedBy, refuse}
 use Rattle.series.specs.Calls.{Input, message, page, octetsOf, read, takeInput}
 use Rattle.layout.specs.Layout.{stateSize, stateRecord, known, stateOctets, OnState, onState}
 use Rattle.layout.specs.OctetLaws.{state-back}
@@ -30,7 +30,7 @@ use Rattle.plain.specs.Log.{result, firstEntry, hasKey, isPart, without, touch,
 use Rattle.plain.specs.Engine.{stateFormed, AfterLog, afterLog, withLog, leaves, logTaken, logUnfit, logTakeMessage, logTakePage, logTakeInput, logBeating, leavesLogBeat, logBeat}
 use Rattle.demands.specs.Refusing.{Leaves, unaltered, dropped}
 use Rattle.demands.specs.RefusedInPlace.{LeftState, state-unaltered, state-without, StateRefused, CompletesLog, LeftLog, log-unaltered, log-without, LogRefused}
-use Rattle.demands.proofs.Refusing.{taking-refused, beat-refused, unfit-refused}
+use Rattle.demands.proofs.Refusing.{not-kept, not-held, not-handed, taking-refused, beat-refused, unfit-refused}
 
 -- ---- taking on a state
 module _ (s cells output : List ℕ) (i : Input) (o : Octets s) where
@@ -121,15 +121,6 @@ module _ (s : LogState) (output : List ℕ) (i : Input) (number : ℕ) where
   abbrev LeftBy : AfterLog → Type 0
   LeftBy a = a .answer ≡ refusedBy number → LeftLog s output i number a
 
-  never-kept : {j : ℕ} {d : Bool} {A : Type 0} → kept j d ≡ refusedBy number → A
-  never-kept e = let z : _≡_ {A = ℕ} 0 1 = cc in absurd (omega arith)
-
-  never-held : {j : ℕ} {A : Type 0} → heldAlready j ≡ refusedBy number → A
-  never-held e = let z : _≡_ {A = ℕ} 0 1 = cc in absurd (omega arith)
-
-  never-handed : {j : ℕ} {A : Type 0} → packet j ≡ refusedBy number → A
-  never-handed e = let z : _≡_ {A = ℕ} 0 1 = cc in absurd (omega arith)
-
   -- refused by a number, with all as it was: by another than 9, or not read as a part
   stays-so : {m : ℕ} → (number ≡ 9 → (x : Entry) → CompletesLog s output i x → ⊥) → refusedBy m ≡ refusedBy number
       → LeftLog s output i number (afterLog (refusedBy m) s output)
@@ -145,7 +136,7 @@ module _ (s : LogState) (output : List ℕ) (i : Input) (number : ℕ) where
 
   alone-left : (start : ℕ) → read (s .kind) i ≡ outcome.gives (single start) → (p : Option (List ℕ)) → LeftBy (leaves s (logHandOut (s .log) output p))
   alone-left start r none e = no-part r (λ key total which start f. let z : _≡_ {A = ℕ} 0 1 = cc in omega arith) e
-  alone-left start r (some p) e = never-handed e
+  alone-left start r (some p) e = not-handed e
 
 -- a part, whose own octets are o
 module _ (s : LogState) (output : List ℕ) (i : Input) (number : ℕ) (key : Key) (total which start : ℕ)
@@ -156,11 +147,11 @@ module _ (s : LogState) (output : List ℕ) (i : Input) (number : ℕ) (key : Ke
   last-left x f t n c none e =
       subst (λ (a : Answer). LeftLog s output i number (afterLog a (withLog s (close (x .rank) (without (x .slot) (s .log)))) output)) (sym e)
       (log-without (cc) x (record { key = key; total = total; which = which; start = start; brings = r; bears = f; counted = t; new = n; last = c }))
-  last-left x f t n c (some p) e = never-handed s output i number e
+  last-left x f t n c (some p) e = not-handed e
 
   held-left : (x p : Entry) (b : Bool)
       → LeftBy s output i number (leaves s (cond b (result (heldAlready (x .slot)) (touch (x .slot) (x .rank) (s .log)) output) (result (refusedBy 8) (s .log) output)))
-  held-left x p true e = never-held s output i number e
+  held-left x p true e = not-held e
   held-left x p false e = by-other s output i number (λ z. omega arith) e
 
   new-left : (x : Entry) → firstEntry (hasKey key) (s .log) ≡ some x → x .total ≡ total → firstEntry (isPart (x .slot) which) (s .log) ≡ none
@@ -168,7 +159,7 @@ module _ (s : LogState) (output : List ℕ) (i : Input) (number : ℕ) (key : Ke
       → LeftBy s output i number (leaves s (cond b (logHandOut (close (x .rank) (without (x .slot) (s .log))) output (packetIn (s .kind) (ofPages key) total (whole (s .slots) (s .kind) (s .log) output key total which (drop start (octetsOf i)) (x .slot))))
       (result (kept (x .slot) false) (touch (x .slot) (x .rank) (s .log) ++ newEntry (s .slots) (s .kind) (s .log) output key total which (drop start (octetsOf i)) (x .slot) ∷ []) output)))
   new-left x f t n true c e = last-left x f t n c (packetIn (s .kind) (ofPages key) total (whole (s .slots) (s .kind) (s .log) output key total which (drop start (octetsOf i)) (x .slot))) e
-  new-left x f t n false c e = never-kept s output i number e
+  new-left x f t n false c e = not-kept e
 
   found-left : (x : Entry) → firstEntry (hasKey key) (s .log) ≡ some x → x .total ≡ total → (p : Option Entry) → firstEntry (isPart (x .slot) which) (s .log) ≡ p
       → LeftBy s output i number (leaves s (inPart (s .slots) (s .kind) (s .log) output key total which (drop start (octetsOf i)) x p))
@@ -182,8 +173,8 @@ module _ (s : LogState) (output : List ℕ) (i : Input) (number : ℕ) (key : Ke
   counted-left x f false t e = by-other s output i number (λ z. omega arith) e
 
   opened-left : (x : Option Entry) → LeftBy s output i number (leaves s (displaces (s .slots) (s .kind) (s .log) output key total which (drop start (octetsOf i)) x))
-  opened-left none e = never-kept s output i number e
-  opened-left (some x) e = never-kept s output i number e
+  opened-left none e = not-kept e
+  opened-left (some x) e = not-kept e
 
   series-left : (x : Option Entry) → firstEntry (hasKey key) (s .log) ≡ x
       → LeftBy s output i number (leaves s (forSeries (s .slots) (s .kind) (s .log) output key total which (drop start (octetsOf i)) x))
@@ -191,7 +182,7 @@ module _ (s : LogState) (output : List ℕ) (i : Input) (number : ℕ) (key : Ke
   series-left none f e = go (freeFrom (s .log) 0 (s .slots)) e
     where
       go : (j : Option ℕ) → LeftBy s output i number (leaves s (newSeries (s .slots) (s .kind) (s .log) output key total which (drop start (octetsOf i)) j))
-      go (some j) e = never-kept s output i number e
+      go (some j) e = not-kept e
       go none e = opened-left (firstEntry (ofRank (s .slots)) (s .log)) e
 
 -- what reading brings, of a message or a page

@@ -45,19 +45,20 @@ use Rattle.trips.proofs.Capture.{salvages-or-refuses}
 use Rattle.trips.proofs.Reports.{still-refused}
 
 -- ---- taking
+-- an answer that is no refusal
+pub not-kept : {j number : ℕ} {d : Bool} {A : Type 0} → kept j d ≡ refusedBy number → A
+not-kept e = let z : _≡_ {A = ℕ} 0 1 = cc in absurd (omega arith)
+
+pub not-held : {j number : ℕ} {A : Type 0} → heldAlready j ≡ refusedBy number → A
+not-held e = let z : _≡_ {A = ℕ} 0 1 = cc in absurd (omega arith)
+
+pub not-handed : {j number : ℕ} {A : Type 0} → packet j ≡ refusedBy number → A
+not-handed e = let z : _≡_ {A = ℕ} 0 1 = cc in absurd (omega arith)
+
 module _ (n : ℕ) (s : State) (i : Input) (number : ℕ) where
   -- an outcome that is refused leaves what it may
   abbrev Left : After → Type 0
   Left a = a .answer ≡ refusedBy number → Leaves n s i number (a .state)
-
-  not-kept : {j : ℕ} {d : Bool} {A : Type 0} → kept j d ≡ refusedBy number → A
-  not-kept e = let z : _≡_ {A = ℕ} 0 1 = cc in absurd (omega arith)
-
-  not-held : {j : ℕ} {A : Type 0} → heldAlready j ≡ refusedBy number → A
-  not-held e = let z : _≡_ {A = ℕ} 0 1 = cc in absurd (omega arith)
-
-  not-handed : {j : ℕ} {A : Type 0} → packet j ≡ refusedBy number → A
-  not-handed e = let z : _≡_ {A = ℕ} 0 1 = cc in absurd (omega arith)
 
   -- refused by another number, or not read as a part: no series is completed
   by-number : {m : ℕ} → (m ≡ 9 → ⊥) → refusedBy m ≡ refusedBy number → Leaves n s i number s
