@@ -1,3 +1,4 @@
+#![tactic(auto)]
 // The library for C: numbers and lent octets cross, and nothing else. A call returns 0, or the number of the refusal. What it answers beside that is put
 // into numbers that the caller lends: zeros, if the call is refused.
 mod arrivals;

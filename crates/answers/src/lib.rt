@@ -1,3 +1,4 @@
+#![tactic(auto)]
 // Answers as text: one writer of rows. What is printed is held to stored lines; a piece that does not fit is left out, so that every call is safe
 // for any buffer.
 pub mod record;

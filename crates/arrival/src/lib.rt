@@ -1,3 +1,4 @@
+#![tactic(auto)]
 // What one short message or one cell broadcast page brings: nothing is kept here, and anything may come.
 ghost use Rattle.std.specs.Prelude.{◌≡◌, drop};
 

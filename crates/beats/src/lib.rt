@@ -1,3 +1,4 @@
+#![tactic(auto)]
 // The beat (02 [6]): a series that nothing has touched for as many beats as a limit says is given up.
 ghost use Rattle.std.specs.Prelude.{◌≡◌, ◌<◌};
 ghost use Rattle.beats.specs.Beats as rule;

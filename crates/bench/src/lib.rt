@@ -1,3 +1,4 @@
+#![tactic(auto)]
 // The bench of one engine: a line of text is a call of the library, and its answer is a line of text again. From line to line a record, the cells, the
 // output and the buffer are kept, the tables of counters and of outstanding commands, and how much of each buffer is lent.
 mod asks;
@@ -14,7 +15,7 @@ use words::line::{Line, VALUES};
 use words::table;
 
 // The result of a line: what is kept afterwards, and where the text ends with its answer.
-#[derive(Drop)]
+#[derive(Clone, Copy)]
 pub struct Heard {
     pub bench: Bench,
     pub understood: bool,

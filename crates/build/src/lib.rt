@@ -1,3 +1,4 @@
+#![tactic(auto)]
 // Building a packet into a lent buffer. Its head, the lengths and the fields that every packet of its kind and body has, is made as one array;
 // then head, check field and data, or head and opaque octets, are put one behind the other.
 ghost use Rattle.std.specs.Prelude.{◌≡◌, ◌∷◌, ◌++◌, ◌+◌, ◌-◌, ◌%◌, ◌≤◌, length, get_or, drop, ltb, leb};
@@ -43,7 +44,7 @@ fn over(head: usize, front: usize, back: usize) -> bool
 }
 
 // Whether fields are written, or how they are refused.
-#[derive(Drop)]
+#[derive(Clone, Copy)]
 pub enum Ruling {
     Allowed,
     Refused(Refusal),

@@ -1,3 +1,4 @@
+#![tactic(auto)]
 // Captures (02, [14]): gateways write each record behind a mark, and files lose stretches. What is sound is copied, and what is skipped is told.
 ghost use Rattle.std.specs.Prelude.{◌≡◌, ◌+◌, ◌≤◌, length, drop};
 ghost use Rattle.types.specs.Refusals.{gives, lent, writes, told_written};

@@ -1,3 +1,4 @@
+#![tactic(auto)]
 // Taking a message or a page on a state that the caller lends as octets: the rules of `series`, of the record that the octets hold. Nothing of the
 // state is copied, and a refusal writes nothing to it.
 mod part;

@@ -11,7 +11,7 @@ pub const M: [u8; 16] = [0, 0x0E, 0x0D, 0, 0, 0, 0, 0xB0, 0, 0x10, 0, 0, 0, 0, 0
 pub const BEFORE: u8 = 0xA5;
 
 // The result of the last call of an example.
-#[derive(Drop)]
+#[derive(Clone, Copy)]
 pub enum Expected {
     // Refused, or M handed out, sixteen octets and no more: no slot is used.
     Ended,

@@ -1,3 +1,4 @@
+#![tactic(auto)]
 // The examples of 01: for each its letter, a space, and the refusal number of its last call or 0. An example that says more than the number
 // is held to it, and prints `differs` if the library does otherwise.
 mod answers;

@@ -1,3 +1,4 @@
+#![tactic(auto)]
 // The cells, where the parts of unfinished series are in the buffer that the caller lends: a part is stored, compared and read again. Where the
 // buffer has no such cell, nothing is stored, and nothing is the same.
 pub mod packets;

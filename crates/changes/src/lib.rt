@@ -1,3 +1,4 @@
+#![tactic(auto)]
 // What is kept from line to line, and the lines that change it: taking, a fresh record, filling, lending, numbering, beats, counters,
 // outstanding commands.
 mod notes;
@@ -15,7 +16,7 @@ use words::table;
 
 // What is kept beside the buffers: the record, the tables of counters and of outstanding commands, how many octets of cells, output, buffer and log
 // are lent (`RIGHT` means the right number), and whether answers are numbered.
-#[derive(Drop)]
+#[derive(Clone, Copy)]
 pub struct Bench {
     pub record: Record,
     pub counters: types::Counters,
@@ -25,7 +26,7 @@ pub struct Bench {
 }
 
 // What is kept afterwards, and the answer.
-#[derive(Drop)]
+#[derive(Clone, Copy)]
 pub struct Made {
     pub bench: Bench,
     pub row: rows::Row,

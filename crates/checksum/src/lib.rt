@@ -1,3 +1,4 @@
+#![tactic(auto)]
 // The octets that a checksum covers, collected into a lent buffer: of a response after the fixed octets 02 71 00 (000, 4.4; 001, 4.5), and
 // without the check field.
 ghost use Rattle.std.specs.Prelude.{◌≡◌, ◌++◌, ◌+◌, ◌≤◌, length};

@@ -1,3 +1,4 @@
+#![tactic(auto)]
 // The bench with a choice of engines: the first, the card's, the plain one, or all of them side by side.
 ghost use Rattle.std.specs.Prelude.{◌≡◌, true, ◌-◌, length, replicate};
 ghost use Rattle.skelmarix.specs.Rules.{default_slots, fresh_record};

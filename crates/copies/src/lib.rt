@@ -1,3 +1,4 @@
+#![tactic(auto)]
 // The log of the plain engine as it is changed (02 [9]): a fresh one; copies of it, made in place, with other ranks and counts, without the entries that
 // go, and with an entry more; and the beat. What is no log, or has no room, a copy leaves as it is.
 ghost use Rattle.std.specs.Prelude.{◌≡◌, true, false, [], ◌∷◌, ◌++◌, map, ◌+◌, ◌/◌, ◌%◌, ◌≤◌, ◌<◌, length};
@@ -44,7 +45,7 @@ pub fn fresh_log(kind: Kind, n: u8) -> LogMade
 }
 
 // What a copy alters in each entry: the series of a slot that had that rank comes to the front; a series of that rank was dropped; a beat.
-#[derive(Drop)]
+#[derive(Clone, Copy)]
 enum Change {
     Touch { slot: u8, rank: u8 },
     Close { rank: u8 },
@@ -52,7 +53,7 @@ enum Change {
 }
 
 // What a copy leaves out: the series of a slot, and every series that one beat more brings to the limit.
-#[derive(Drop)]
+#[derive(Clone, Copy)]
 enum Gone {
     InSlot(u8),
     AtLimit(u8),

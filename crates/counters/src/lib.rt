@@ -1,3 +1,4 @@
+#![tactic(auto)]
 // Counter judgement (02, [8]; TS 102 225): the counter of a plain command against the one that is stored for its application. The table goes in
 // and comes back by value; the card keeps it.
 ghost use Rattle.std.specs.Prelude.{◌≡◌, ◌+◌, ◌≤◌, ◌<◌, length, drop};

@@ -1,3 +1,4 @@
+#![tactic(auto)]
 // How the library is used: a server notes a command and sends it; a card takes it in three parts, out of order, reads it and answers, first with a
 // report that says that the response follows, and then with the response in parts; the server takes both, and the response closes the command. It
 // prints what happens.

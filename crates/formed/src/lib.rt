@@ -1,3 +1,4 @@
+#![tactic(auto)]
 // Which records are well formed (01, "Numbers"): one function for each test of the rules, in their order, and one loop for each test that goes
 // over the parts of a slot or over the slots.
 ghost use Rattle.std.specs.Prelude.{◌≡◌, cond, ◌&&◌, ◌≤◌, ◌<◌, length};

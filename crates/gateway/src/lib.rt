@@ -1,3 +1,4 @@
+#![tactic(auto)]
 // Outstanding commands, server side (02, [13]): which commands were sent and wait for their response. The table goes in and comes back by value;
 // the server keeps it. Of the library below, the two calls see only what is promised.
 ghost use Rattle.std.specs.Prelude.{◌≡◌, not, ◌≤◌, ◌<◌, length};

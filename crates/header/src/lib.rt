@@ -1,10 +1,11 @@
+#![tactic(auto)]
 // The user data header (01, "User data header"): one element is read and then the rest in the same way, and what counts is noted on the way.
 ghost use Rattle.std.specs.Prelude.{◌≡◌, length, drop};
 ghost use Rattle.header.specs.Header.{item};
 ghost use Rattle.header.specs.Reading.{first_element, narrow_in, wide_in, seen_of, nothing_seen, wrong_seen, concatenation_seen, command_seen, response_seen, added, walked, told_walked, seen_in, told_rest};
 
 // What a concatenation element says: the width of its reference in bits, the reference, how many parts there are and which this is.
-#[derive(Drop)]
+#[derive(Clone, Copy)]
 pub struct Concatenation {
     pub width: u8,
     pub reference: u16,
@@ -13,7 +14,7 @@ pub struct Concatenation {
 }
 
 // What the elements of a header say together.
-#[derive(Drop)]
+#[derive(Clone, Copy)]
 pub struct Seen {
     // an element that counts is of wrong length
     pub wrong: bool,
@@ -25,13 +26,13 @@ pub struct Seen {
 }
 
 // A reading position in a header.
-#[derive(Drop)]
+#[derive(Clone, Copy)]
 pub struct Cursor {
     pub at: usize,
 }
 
 // What stands at a reading position.
-#[derive(Drop)]
+#[derive(Clone, Copy)]
 pub enum Element {
     // A whole element: its identifier, where its octets start and how many they are; next is past it.
     Read {
@@ -45,7 +46,7 @@ pub enum Element {
 }
 
 // What a header comes to.
-#[derive(Drop)]
+#[derive(Clone, Copy)]
 pub enum Walked {
     Header(Seen),
     Past,

@@ -28,14 +28,14 @@ pub fn octet_in(n: u32) -> u8
 }
 
 // The fields of a plain command and of a plain response up to the check field.
-#[derive(Drop)]
+#[derive(Clone, Copy)]
 pub struct CommandFront {
     pub clear: Clear,
     pub cntr: Cntr,
     pub pcntr: u8,
 }
 
-#[derive(Drop)]
+#[derive(Clone, Copy)]
 pub struct ResponseFront {
     pub tar: Tar,
     pub cntr: Cntr,

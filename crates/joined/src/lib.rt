@@ -1,3 +1,4 @@
+#![tactic(auto)]
 // The packet that joined octets hold, told from their front alone: how many they are, and the first three of them (01, "Numbers", "Series").
 // The front is made here, part by part, and judged here; what lies in one place is handed out here too.
 ghost use Rattle.std.specs.Prelude.{◌≡◌, [], ◌++◌, ◌≤◌, length, take, drop};
@@ -9,7 +10,7 @@ use types::{Kind, PAGE_CONTENT};
 const MOST_COUNTED: usize = 65537;
 
 // How many octets there are, and the first three of them, which may lie in any parts; 0 stands for what is not there.
-#[derive(Drop)]
+#[derive(Clone, Copy)]
 pub struct Front {
     pub count: usize,
     pub high: u8,
@@ -18,7 +19,7 @@ pub struct Front {
 }
 
 // How many of the octets are the packet, if there is one.
-#[derive(Drop)]
+#[derive(Clone, Copy)]
 pub enum Size {
     Octets(usize),
     None,

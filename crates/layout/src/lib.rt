@@ -1,3 +1,4 @@
+#![tactic(auto)]
 // The record of unfinished series in place, as octets of a state that the caller lends (`specs/Layout.antt` has their places): what its slots
 // say is read where it is, and changed there.
 pub mod find;

@@ -1,3 +1,4 @@
+#![tactic(auto)]
 // Lines that leave alone what is kept: calls on packets, USSD strings, arrivals, parts and reports. Each is known by its row of the table, and its
 // octets are one word's behind the other's (`values::fields`).
 mod build;

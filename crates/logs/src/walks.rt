@@ -12,7 +12,7 @@ use types::Key;
 
 // What is looked for: a series by its key, by its slot or by its rank, a part, whatever cannot be in one log with entry i, and a series that a beat with
 // that limit drops.
-#[derive(Drop)]
+#[derive(Clone, Copy)]
 pub enum Sought {
     OfKey(Key),
     OfSlot(u8),

@@ -1,3 +1,4 @@
+#![tactic(auto)]
 // The order of recency in place (01, "Series"): a slot of a state comes to the front, or is freed, and the others keep their order. Each call
 // makes of the record that the state holds what `slots::order::replaced` makes of a record. If there is no slot i, nothing is changed.
 ghost use Rattle.std.specs.Prelude.{true, false};

@@ -51,12 +51,11 @@ module _ (d : List ℕ) (at : ℕ) (p : List ℕ) where
   fits_told l m = sym (le-leb (at + length p) (length d) (omega arith))
 
   pub fits_written : (ys : List ℕ) → at ≤ length d → length p ≤ length d - at
-      → ys ≡ take (length p) p ++ drop (length p) (take (at + length p - at) (drop at d))
+      → ys ≡ p
       → take at d ++ (ys ++ drop (at + length p - at) (drop at d)) ≡ after_put d at p
   unfolding placed
   fits_written ys l m e =
-      let none : length (take (length p) (drop at d)) ≤ length p = simp length-take (omega arith) in
-      rw (e, add-sub_cancel_left, take-length, drop_of_length-le (take (length p) (drop at d)) none, append-nil, drop-drop, le-leb (at + length p) (length d) (omega arith))
+      rw (e, add-sub_cancel_left, drop-drop, le-leb (at + length p) (length d) (omega arith))
 
 -- ---- comparing: what was found of the first i octets, and what the others come to, is the whole answer
 pub unequal_lengths : (a b : List ℕ) → (length a ≡ length b → ⊥) → false ≡ same_octets a b

@@ -1,3 +1,4 @@
+#![tactic(auto)]
 // Octets: one as a length, two as a 16-bit number, the first of a slice, octets put into a lent slice, and two slices compared.
 pub mod given;
 
@@ -56,7 +57,7 @@ pub fn put(src: &[u8], dst: &mut [u8], at: usize) -> bool
         return false;
     }
     let end = at + src.len();
-    bytes::copy(src, &mut dst[at..end]);
+    dst[at..end].copy_from_slice(src);
     true
 }
 

@@ -1,3 +1,4 @@
+#![tactic(auto)]
 // The card's engine and the plain one, behind the lines of the bench: what is kept of each, and the lines that each answers by calls of its own. What
 // they keep and answer is held to stored lines.
 use types::{Kind, LOG_OCTETS, Log, Making, Record, STATE_OCTETS};
@@ -8,14 +9,14 @@ use words::table;
 pub const CARD: usize = 1;
 
 // What is kept of the two: the state of the card's, the plain one's log. Cells and entries are lent.
-#[derive(Drop)]
+#[derive(Clone, Copy)]
 pub struct Others {
     pub state: [u8; STATE_OCTETS],
     pub log: Log,
 }
 
 // What is kept afterwards, and the answer.
-#[derive(Drop)]
+#[derive(Clone, Copy)]
 pub struct Changed {
     pub others: Others,
     pub row: rows::Row,

@@ -45,7 +45,7 @@ pub fn ciphered_command(packet: &[u8]) -> bool
 }
 
 // What every reading asks of a packet first: the refusal, or the header length of a packet that can be read.
-#[derive(Drop)]
+#[derive(Clone, Copy)]
 pub enum Judged {
     Readable(usize),
     Refused(Refusal),

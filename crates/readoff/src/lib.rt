@@ -1,3 +1,4 @@
+#![tactic(auto)]
 // The record that is read off a log (02 [9]): for each slot a walk to its first entry, which says what is noted of the series, and a walk for each part.
 // Every log and all octets can be read; nothing is written.
 ghost use Rattle.std.specs.Prelude.{◌≡◌};

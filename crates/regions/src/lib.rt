@@ -1,3 +1,4 @@
+#![tactic(auto)]
 // The engines of the bench, each on its own region of cells and of output: the first, the card's, the plain one, or all of them side by side. Of the plain
 // one the cells are the entries of its log.
 ghost use Rattle.std.specs.Prelude.{◌≡◌, ◌≤◌};
@@ -20,7 +21,7 @@ pub const PLAIN: usize = 2;
 const REGION: usize = 16384;
 
 // What is kept beside the buffers: that of the first engine and of every line that needs no engine, which engine answers, and what is kept of the others.
-#[derive(Drop)]
+#[derive(Clone, Copy)]
 pub struct Chosen {
     pub bench: Bench,
     pub engine: usize,
@@ -28,7 +29,7 @@ pub struct Chosen {
 }
 
 // The result of a line: what is kept afterwards, and where the text ends with its answer.
-#[derive(Drop)]
+#[derive(Clone, Copy)]
 pub struct Told {
     pub chosen: Chosen,
     pub understood: bool,

@@ -1,3 +1,4 @@
+#![tactic(auto)]
 // ./run replay [-n] [FILE..] reads calls of the library from the files, or from standard input if there is none, one call a line, makes them on
 // one record, and prints one line an answer. -n puts the line's number before each answer. Lines that were not understood, or too long, are
 // counted on standard error at the end. docs/BENCH.md has the lines and their answers.

@@ -1,3 +1,4 @@
+#![tactic(auto)]
 // Report first, data afterwards (02, [1] and [12]; 000, 4.1; 003): what goes out when a response is there, what is in the delivery report, and
 // whether a response says that another follows.
 ghost use Rattle.std.specs.Prelude.{◌≡◌, ◌+◌, ◌≤◌, length};

@@ -1,3 +1,4 @@
+#![tactic(auto)]
 // ./run salvage copies what is sound of the capture on standard input to the file salvage.out, and prints a line for each longest run of octets
 // that it skipped: the first position, from 0, a space, and the count. A capture of more than 65,536 octets is refused: 24 is printed, and
 // salvage.out is empty. It is empty as well if reading or writing the octets fails; standard error says what failed.
@@ -12,7 +13,7 @@ const NEARLY: usize = 65500;
 
 // ---- input
 // How many octets were read, and whether reading went well.
-#[derive(Drop)]
+#[derive(Clone, Copy)]
 struct Input {
     count: usize,
     well: bool,

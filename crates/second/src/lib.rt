@@ -1,3 +1,4 @@
+#![tactic(auto)]
 // Taking a message or a page on the log of the plain engine (02 [9]): one lent log of accepted parts. Each search walks over the log from its start, and a
 // series is dropped by copying the log without it.
 pub(crate) mod packets;

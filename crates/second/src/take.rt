@@ -22,7 +22,7 @@ use logs::walks::{Sought, complete, find, free_slot};
 use types::{Answer, Arrival, Key, Kind, Refusal};
 
 // What taking a part comes to: the answer, and how many entries there are afterwards.
-#[derive(Drop)]
+#[derive(Clone, Copy)]
 pub(crate) struct Done {
     pub answer: Answer,
     pub count: u8,

@@ -24,7 +24,7 @@ use types::{
 };
 
 // What a part of a series that is there does.
-#[derive(Drop)]
+#[derive(Clone, Copy)]
 pub enum Step {
     Refuses(Refusal),
     Repeats,
@@ -77,7 +77,7 @@ fn decide(x: Slot, i: usize, total: u8, number: usize, cells: &[u8], part: &[u8]
 
 // ---- acting
 // What is answered, and what becomes of the record: it stays as it is, or a slot moves, to the front or out, and is `entry` then.
-#[derive(Drop)]
+#[derive(Clone, Copy)]
 pub(crate) struct Change {
     pub answer: Answer,
     pub moves: bool,

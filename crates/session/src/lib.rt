@@ -1,3 +1,4 @@
+#![tactic(auto)]
 // A run of the bench: the next line of what was read, what is kept from line to line, and what is counted and written of the answers. Nothing is
 // promised but that every call is safe.
 pub mod piece;
@@ -11,7 +12,7 @@ use words::input::Input;
 const NEARLY: usize = 32000;
 
 // How far the input was read, and what is counted of the answers.
-#[derive(Drop)]
+#[derive(Clone, Copy)]
 pub struct Tally {
     pub input: Input,
     // how many lines were read, and how many of them were not understood or too long
@@ -23,7 +24,7 @@ pub struct Tally {
 }
 
 // What is kept from line to line.
-#[derive(Drop)]
+#[derive(Clone, Copy)]
 pub struct Session {
     chosen: Chosen,
     pub tally: Tally,

@@ -1,3 +1,4 @@
+#![tactic(auto)]
 // Skelmarix: secured packets over short messages, cell broadcast pages and USSD strings. What a user names of the crates below, and nothing of its own; the
 // calls that only these crates make of one another stay with them.
 

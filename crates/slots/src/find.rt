@@ -9,14 +9,14 @@ use types::{
 };
 
 // Which slot a search found.
-#[derive(Drop)]
+#[derive(Clone, Copy)]
 pub enum Found {
     At(usize),
     Nothing,
 }
 
 // The slot of a series: whether it is held there, and if not, whether it displaces another.
-#[derive(Drop)]
+#[derive(Clone, Copy)]
 pub struct Seat {
     pub slot: usize,
     pub held: bool,

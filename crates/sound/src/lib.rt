@@ -1,3 +1,4 @@
+#![tactic(auto)]
 // Which states hold a well-formed record: the tests of `formed`, in their order, on a slot's octets where they are.
 pub mod beat;
 

@@ -1,3 +1,4 @@
+#![tactic(auto)]
 // Splitting: a packet is written as user data of short messages, or as cell broadcast pages, one part a call.
 mod message;
 mod page;
@@ -9,7 +10,7 @@ ghost use Rattle.split.specs.Splitting.{told, written, write_message, write_page
 use types::{Kind, MessageIdentifier, Refusal, SerialNumber, WrittenPart};
 
 // What is due to a call that asks for a part: how many parts there are, where the part is to be written, or why it is not.
-#[derive(Drop)]
+#[derive(Clone, Copy)]
 pub(crate) enum Due {
     Total(usize),
     Refused(Refusal),

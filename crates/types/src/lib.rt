@@ -1,16 +1,17 @@
+#![tactic(auto)]
 // The types that users of the library meet, in one place: whoever looks into one of them lists this crate beside `skelmarix`.
 ghost use Rattle.std.specs.Prelude.{◌≡◌};
 ghost use Rattle.types.specs.Refusals.{refusal_number};
 
 // Which way a packet goes: to the card, or back from it.
-#[derive(Drop)]
+#[derive(Clone, Copy)]
 pub enum Kind {
     Command,
     Response,
 }
 
 // Why a call was refused: its number, its condition, and the calls that give it. `Refusals.antt` has the numbers as a rule.
-#[derive(Drop)]
+#[derive(Clone, Copy)]
 pub enum Refusal {
     // 1: a lent buffer of another length than it must have, a record that is not well formed, or a table of commands that says that more than 8
     // entries are in use, or in which two of those are equal. Taking, building, checksum octets, writing, reporting, sending a command, a response
@@ -108,19 +109,19 @@ impl Refusal {
 }
 
 // The security parameters of a command.
-#[derive(Drop)]
+#[derive(Clone, Copy)]
 pub struct Spi(pub u8, pub u8);
 
 // The application that a packet is for.
-#[derive(Drop)]
+#[derive(Clone, Copy)]
 pub struct Tar(pub u8, pub u8, pub u8);
 
 // The counter of a packet.
-#[derive(Drop)]
+#[derive(Clone, Copy)]
 pub struct Cntr(pub u8, pub u8, pub u8, pub u8, pub u8);
 
 // A plain command's fields from its counter on: the counters, and how long the check field and the secured data are.
-#[derive(Drop)]
+#[derive(Clone, Copy)]
 pub struct PlainCommand {
     pub cntr: Cntr,
     pub pcntr: u8,
@@ -129,7 +130,7 @@ pub struct PlainCommand {
 }
 
 // A plain response's fields from its counter on.
-#[derive(Drop)]
+#[derive(Clone, Copy)]
 pub struct PlainResponse {
     pub cntr: Cntr,
     pub pcntr: u8,
@@ -139,26 +140,26 @@ pub struct PlainResponse {
 }
 
 // A ciphered body is opaque from its counter on: the header length that the packet states, and how many octets are opaque.
-#[derive(Drop)]
+#[derive(Clone, Copy)]
 pub struct Opaque {
     pub header_length: u8,
     pub opaque_length: usize,
 }
 
-#[derive(Drop)]
+#[derive(Clone, Copy)]
 pub enum CommandBody {
     Plain(PlainCommand),
     Ciphered(Opaque),
 }
 
-#[derive(Drop)]
+#[derive(Clone, Copy)]
 pub enum ResponseBody {
     Plain(PlainResponse),
     Ciphered(Opaque),
 }
 
 // What is before the counter of a command, in the clear also if the body is ciphered.
-#[derive(Drop)]
+#[derive(Clone, Copy)]
 pub struct Clear {
     pub spi: Spi,
     pub kic: u8,
@@ -167,35 +168,35 @@ pub struct Clear {
 }
 
 // A parsed command: its fields in the clear, and one of two bodies.
-#[derive(Drop)]
+#[derive(Clone, Copy)]
 pub struct Command {
     pub clear: Clear,
     pub body: CommandBody,
 }
 
 // A parsed response.
-#[derive(Drop)]
+#[derive(Clone, Copy)]
 pub struct Response {
     pub tar: Tar,
     pub body: ResponseBody,
 }
 
 // What parsing a command answers.
-#[derive(Drop)]
+#[derive(Clone, Copy)]
 pub enum ParsedCommand {
     Fields(Command),
     Refused(Refusal),
 }
 
 // What parsing a response answers.
-#[derive(Drop)]
+#[derive(Clone, Copy)]
 pub enum ParsedResponse {
     Fields(Response),
     Refused(Refusal),
 }
 
 // What writing to a lent buffer answers: how many octets are at its start.
-#[derive(Drop)]
+#[derive(Clone, Copy)]
 pub enum Written {
     Octets(usize),
     Refused(Refusal),
@@ -203,15 +204,15 @@ pub enum Written {
 
 // ---- arrivals
 // The serial number of a page, and its message identifier: both two octets, each a number of its own sort throughout.
-#[derive(Drop)]
+#[derive(Clone, Copy)]
 pub struct SerialNumber(pub u16);
 
-#[derive(Drop)]
+#[derive(Clone, Copy)]
 pub struct MessageIdentifier(pub u16);
 
 // What tells a series from every other. A short message's key has a sender, a reference and its width, 8 or 16; a page's key has width 0,
 // a serial number and a message identifier. What a key does not use is zero.
-#[derive(Drop)]
+#[derive(Clone, Copy)]
 pub struct Key {
     pub sender: u32,
     pub width: u8,
@@ -221,7 +222,7 @@ pub struct Key {
 }
 
 // What a message or a page brings. The octets from `start` on are the part's own.
-#[derive(Drop)]
+#[derive(Clone, Copy)]
 pub enum Arrival {
     Single {
         start: usize,
@@ -243,7 +244,7 @@ pub const PARTS: usize = 16;
 
 // What is known of one series. Rank 0: the slot is free, and all of it is zero. Rank 1: its series is the most recent. `beats` is the count of
 // beats since it was last touched, 0 to 254.
-#[derive(Drop)]
+#[derive(Clone, Copy)]
 pub struct Slot {
     pub rank: u8,
     pub beats: u8,
@@ -254,7 +255,7 @@ pub struct Slot {
 }
 
 // The unfinished series of one kind. The first `count` slots are the record's own, 1 to 5 of them; those past them are all zero.
-#[derive(Drop)]
+#[derive(Clone, Copy)]
 pub struct Record {
     pub kind: Kind,
     pub count: u8,
@@ -262,21 +263,21 @@ pub struct Record {
 }
 
 // What making a record with a number of slots answers.
-#[derive(Drop)]
+#[derive(Clone, Copy)]
 pub enum Making {
     Fresh,
     Refused(Refusal),
 }
 
 // The answer, and the record. Beside a refusal it is one without slots, all zero, which no call accepts.
-#[derive(Drop)]
+#[derive(Clone, Copy)]
 pub struct Made {
     pub answer: Making,
     pub record: Record,
 }
 
 // What taking a message or a page answers.
-#[derive(Drop)]
+#[derive(Clone, Copy)]
 pub enum Answer {
     Kept { slot: usize, displaced: bool },
     HeldAlready { slot: usize },
@@ -285,21 +286,21 @@ pub enum Answer {
 }
 
 // The answer, and the record as it is afterwards.
-#[derive(Drop)]
+#[derive(Clone, Copy)]
 pub struct Taken {
     pub answer: Answer,
     pub record: Record,
 }
 
 // What a beat answers: how many series were dropped.
-#[derive(Drop)]
+#[derive(Clone, Copy)]
 pub enum Beating {
     Dropped(u8),
     Refused(Refusal),
 }
 
 // The answer, and the record as it is afterwards.
-#[derive(Drop)]
+#[derive(Clone, Copy)]
 pub struct Beaten {
     pub answer: Beating,
     pub record: Record,
@@ -308,7 +309,7 @@ pub struct Beaten {
 // ---- the plain engine
 // What is not in the entries of a log: the kind of the packets, the number of slots, and how many entries there are at the start of the lent octets. It
 // goes by value as a record does, so the lent octets are entries and nothing else, and no octet has to be read as a kind.
-#[derive(Drop)]
+#[derive(Clone, Copy)]
 pub struct Log {
     pub kind: Kind,
     pub slots: u8,
@@ -316,20 +317,20 @@ pub struct Log {
 }
 
 // The answer, and the log. Beside a refusal it is one without slots, which no call accepts.
-#[derive(Drop)]
+#[derive(Clone, Copy)]
 pub struct LogMade {
     pub answer: Making,
     pub log: Log,
 }
 
 // The answer, and the log as it is afterwards.
-#[derive(Drop)]
+#[derive(Clone, Copy)]
 pub struct LogTaken {
     pub answer: Answer,
     pub log: Log,
 }
 
-#[derive(Drop)]
+#[derive(Clone, Copy)]
 pub struct LogBeaten {
     pub answer: Beating,
     pub log: Log,
@@ -382,28 +383,28 @@ pub const USSD_DCS: u8 = 0x96;
 pub const COUNTER_ENTRIES: usize = 16;
 
 // The counter that is stored for an application.
-#[derive(Drop)]
+#[derive(Clone, Copy)]
 pub struct CounterEntry {
     pub tar: Tar,
     pub cntr: Cntr,
 }
 
 // The stored counters. The first `count` entries are in use, each for another application; the others count for nothing.
-#[derive(Drop)]
+#[derive(Clone, Copy)]
 pub struct Counters {
     pub count: u8,
     pub entries: [CounterEntry; COUNTER_ENTRIES],
 }
 
 // What judging the counter of a command answers: a status of TS 102 225, as a response bears it, or a refusal.
-#[derive(Drop)]
+#[derive(Clone, Copy)]
 pub enum Judgement {
     Status(u8),
     Refused(Refusal),
 }
 
 // The answer, and the table as it is afterwards.
-#[derive(Drop)]
+#[derive(Clone, Copy)]
 pub struct JudgedCounter {
     pub answer: Judgement,
     pub counters: Counters,
@@ -415,7 +416,7 @@ pub const OUTSTANDING_ENTRIES: usize = 8;
 
 // A command that was sent: the number that the caller gives to the card that answers it, as the sender of what comes from there, and the
 // command's application and counter.
-#[derive(Drop)]
+#[derive(Clone, Copy)]
 pub struct SentCommand {
     pub sender: u32,
     pub tar: Tar,
@@ -423,28 +424,28 @@ pub struct SentCommand {
 }
 
 // The commands that wait for their response. The first `count` entries are in use, no two of them equal; the others count for nothing.
-#[derive(Drop)]
+#[derive(Clone, Copy)]
 pub struct Outstanding {
     pub count: u8,
     pub entries: [SentCommand; OUTSTANDING_ENTRIES],
 }
 
 // What noting a command that was sent answers.
-#[derive(Drop)]
+#[derive(Clone, Copy)]
 pub enum Sending {
     Sent,
     Refused(Refusal),
 }
 
 // The answer, and the table as it is afterwards.
-#[derive(Drop)]
+#[derive(Clone, Copy)]
 pub struct AfterSending {
     pub answer: Sending,
     pub outstanding: Outstanding,
 }
 
 // What a response that came answers: it closed its command, or the command waits for the complete response.
-#[derive(Drop)]
+#[derive(Clone, Copy)]
 pub enum Closing {
     Closed,
     Waiting,
@@ -452,7 +453,7 @@ pub enum Closing {
 }
 
 // The answer, and the table as it is afterwards.
-#[derive(Drop)]
+#[derive(Clone, Copy)]
 pub struct AfterResponse {
     pub answer: Closing,
     pub outstanding: Outstanding,
@@ -460,7 +461,7 @@ pub struct AfterResponse {
 
 // ---- splitting
 // What writing one part answers: how many parts the packet has, and how many octets are at the buffer's start.
-#[derive(Drop)]
+#[derive(Clone, Copy)]
 pub enum WrittenPart {
     Part { total: usize, length: usize },
     Refused(Refusal),
@@ -469,7 +470,7 @@ pub enum WrittenPart {
 // ---- reporting
 // What goes out when a response is there: nothing; a delivery report that carries it; a delivery report that announces it, and then the response
 // as submitted parts; or these alone. `length` is how many octets of the report are at the buffer's start.
-#[derive(Drop)]
+#[derive(Clone, Copy)]
 pub enum Outgoing {
     Nothing,
     Report { length: usize },
@@ -484,7 +485,7 @@ pub const OLD_EDITION: u32 = 0;
 pub const PRESENT_EDITION: u32 = 1;
 
 // Whether a response only says that another follows.
-#[derive(Drop)]
+#[derive(Clone, Copy)]
 pub enum Announcing {
     Yes,
     No,
@@ -499,7 +500,7 @@ pub const CAPTURE_HEAD: usize = 4;
 
 // A longest run of octets that salvaging skips: its first position, how many octets it has, and the position behind it. If no octet is skipped,
 // the count is 0.
-#[derive(Drop)]
+#[derive(Clone, Copy)]
 pub struct SkippedRun {
     pub first: usize,
     pub count: usize,
@@ -507,7 +508,7 @@ pub struct SkippedRun {
 }
 
 // What octets are as one record of a capture, by itself. Its own octets begin at `start`.
-#[derive(Drop)]
+#[derive(Clone, Copy)]
 pub enum Captured {
     UserData { start: usize },
     Page { start: usize },
@@ -516,5 +517,5 @@ pub enum Captured {
 
 // ---- numbers on the air
 // Two octets of a 16-bit number, the high one first, as they are on the air.
-#[derive(Drop)]
+#[derive(Clone, Copy)]
 pub struct Pair(pub u8, pub u8);

@@ -1,3 +1,4 @@
+#![tactic(auto)]
 // Writing a command as a USSD string into a lent buffer (02, [7]): PFI, identifier and lengths, and the fields behind them. The rules are those of
 // `ussd`.
 ghost use Rattle.std.specs.Prelude.{◌≡◌, ◌∷◌, ◌++◌, ◌+◌, ◌≤◌, length, get_or};

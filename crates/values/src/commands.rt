@@ -11,7 +11,7 @@ use types::{Outstanding, SentCommand};
 use words::table;
 
 // The table as a line leaves it, and the answer.
-#[derive(Drop)]
+#[derive(Clone, Copy)]
 pub struct Left {
     pub outstanding: Outstanding,
     pub row: rows::Row,

@@ -1,3 +1,4 @@
+#![tactic(auto)]
 // Between a line's words and the library's types: the fields in a line's octets (`fields`, `slot`) and what they mean (`meaning`), what a line
 // leaves of the tables of counters and of outstanding commands (`counters`, `commands`), and answers as rows of numbers (`rows`, `part`).
 pub mod commands;

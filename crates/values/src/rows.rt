@@ -8,7 +8,7 @@ use types::{
 // A name is a number, its letters are digits to the base 32: `a` is 1. The sorts have four bits each, the first lowest: 1 to 5 so many octets as
 // digits, 6 a decimal number, 7 a name; 8 to 10 a number and so many octets of the first, second, third buffer; 12 to 14 a part of it, from
 // v / 65536 on so many octets as v % 65536.
-#[derive(Drop)]
+#[derive(Clone, Copy)]
 pub struct Row {
     pub name: u64,
     pub sorts: u64,

@@ -6,7 +6,7 @@ use libc::{STDERR_FILENO, STDIN_FILENO};
 const MOST: usize = 9000;
 
 // How far reading has come.
-#[derive(Drop)]
+#[derive(Clone, Copy)]
 pub struct Input {
     // where the line to come begins in the piece, and how many characters are there
     pub from: usize,

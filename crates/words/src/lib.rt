@@ -1,3 +1,4 @@
+#![tactic(auto)]
 // A line's words, read from the front: blanks passed, a name or a number, octets. What a whole line says is read by `line::read`.
 pub mod input;
 pub mod line;
@@ -8,14 +9,14 @@ ghost use Rattle.words.specs.Words as rule;
 ghost use Rattle.words.specs.Words.{is_blank, skipped, ended, is_empty, is_digit, with_digit, is_hex, hex_of, octet_of, octets_at, behind_octets, word_octets, behind_word, Counted, Paired};
 
 // The number that was read, and the place behind it.
-#[derive(Drop)]
+#[derive(Clone, Copy)]
 pub struct Number {
     pub value: u64,
     pub at: usize,
 }
 
 // How many octets were read, and the place behind them.
-#[derive(Drop)]
+#[derive(Clone, Copy)]
 pub(crate) struct Pairs {
     pub(crate) count: usize,
     pub(crate) at: usize,

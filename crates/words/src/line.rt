@@ -9,7 +9,7 @@ use crate::table::{find, most_of, sorts_of};
 use crate::{is_end, is_last, number_at, octets_at, skip};
 
 // What reading a word gave: whether it is of its sort, its value, the place behind it, and how many octets the line has so far.
-#[derive(Drop)]
+#[derive(Clone, Copy)]
 pub(crate) struct Word {
     pub(crate) good: bool,
     pub(crate) value: u64,
@@ -21,7 +21,7 @@ pub(crate) struct Word {
 pub const VALUES: usize = 9;
 
 // What was read of a line. The values are those of the words behind the names: a number, or for octets how many the line has up to their end.
-#[derive(Drop)]
+#[derive(Clone, Copy)]
 pub struct Line {
     pub understood: bool,
     pub more: bool,
@@ -193,7 +193,7 @@ pub fn is_silent(line: &[u8]) -> bool
 
 // ---- the parts of a slot
 // What a word says of a part, `NUMBER:LENGTH` or `NUMBER=LENGTH`, and the place behind it.
-#[derive(Drop)]
+#[derive(Clone, Copy)]
 struct Part {
     good: bool,
     held: bool,
@@ -256,7 +256,7 @@ fn part_at(line: &[u8], from: usize) -> Part {
 const PARTS: usize = 16;
 
 // The parts read so far, and which numbers were given.
-#[derive(Drop)]
+#[derive(Clone, Copy)]
 pub struct Parts {
     pub understood: bool,
     pub lengths: [u8; PARTS],

@@ -1,0 +1,15 @@
+-- `command_sent` meets its contract: the refusals stand in the order of the rule; a new command in a table that has room is put in. Assumes nothing.
+use Rattle.gateway.proofs.Steps.{steps}
+use Rattle.gateway.proofs.command_sent.Goals as goal
+
+pub returns-then-unfit : goal.returns-then-unfit
+returns-then-unfit c = search steps
+
+pub returns-then-at-end : goal.returns-then-at-end
+returns-then-at-end c = search steps
+
+pub returns-then-end-ge-OUTSTANDING_ENTRIES : goal.returns-then-end-ge-OUTSTANDING_ENTRIES
+returns-then-end-ge-OUTSTANDING_ENTRIES c = search steps
+
+pub returns : goal.returns
+returns c = search steps
