@@ -38,9 +38,9 @@ pub record NoneTwice (c : Counters) (i : ℕ) : Type 0 where
   pub inside : i ≤ c.count
   pub long : length (in_use c) ≡ c.count
 
-module _ (c : Counters) {B : Type 0} (f : CounterEntry → B) (owned : length (map f c.entries) ≡ 16) (few : c.count ≤ 16) where
+module _ (c : Counters) (owned : length c.entries ≡ 16) (few : c.count ≤ 16) where
   all_there : length (in_use c) ≡ c.count
-  all_there = length-take-le c.count c.entries (omega (arith, length-map c.entries f))
+  all_there = length-take-le c.count c.entries (omega arith)
 
   pub look_starts : (t : Tar) (from : ℕ) → from ≤ c.count → Looking t c from from
   look_starts t from l = record { is = refl; inside = l; long = all_there }
@@ -135,7 +135,7 @@ module _ (bits : ℕ) (a b : Cntr) where
 
 -- ---- a command against a table that is not refused
 module _ (c : Counters) (p : List ℕ) (t : Tar) (is : t ≡ command_tar p) (i : ℕ) (place : i ≡ 0 + place_of t (drop 0 (in_use c)))
-    {B : Type 0} (f : CounterEntry → B) (owned : length (map f c.entries) ≡ 16) (few : c.count ≤ 16) (w : Assessed) where
+    (owned : length c.entries ≡ 16) (few : c.count ≤ 16) (w : Assessed) where
   at_place : i ≡ place_of (command_tar p) (in_use c)
   at_place = let q : i ≡ 0 + place_of (command_tar p) (drop 0 (in_use c)) = rw is at place in omega arith
 
@@ -143,14 +143,14 @@ module _ (c : Counters) (p : List ℕ) (t : Tar) (is : t ≡ command_tar p) (i :
   unfolding judged_by
   tar_unknown l e =
       let h : has_tar (command_tar p) (in_use c) ≡ false =
-      le-ltb (place_of (command_tar p) (in_use c)) (length (in_use c)) (omega (arith, all_there c f owned few, at_place)) in
+      le-ltb (place_of (command_tar p) (in_use c)) (length (in_use c)) (omega (arith, all_there c owned few, at_place)) in
       e ∙ rw h
 
   pub tar_known : i < c.count → w ≡ or_leaves c (gives (judged_at c i p)) → w ≡ or_leaves c (gives (judged_by c p))
   unfolding judged_by
   tar_known l e =
       let h : has_tar (command_tar p) (in_use c) ≡ true =
-      lt-ltb (place_of (command_tar p) (in_use c)) (length (in_use c)) (omega (arith, all_there c f owned few, at_place)) in
+      lt-ltb (place_of (command_tar p) (in_use c)) (length (in_use c)) (omega (arith, all_there c owned few, at_place)) in
       e ∙ rw (h, ← at_place)
 
 -- against its entry

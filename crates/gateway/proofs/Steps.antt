@@ -41,9 +41,9 @@ next_entry es end i long more =
     drop-cons (take end es) i zero_command (omega arith)
     ∙ ap (λ (e : SentCommand). e ∷ drop (suc i) (take end es)) (get_or-take end es i zero_command more)
 
-module _ (es : List SentCommand) {B : Type 0} (f : SentCommand → B) (owned : length (map f es) ≡ 8) (end : ℕ) (few : end ≤ 8) where
+module _ (es : List SentCommand) (owned : length es ≡ 8) (end : ℕ) (few : end ≤ 8) where
   all_there : length (take end es) ≡ end
-  all_there = length-take-le end es (omega (arith, length-map es f))
+  all_there = length-take-le end es (omega arith)
 
   pub look_starts : (c : SentCommand) → Looking c es end 0
   look_starts c = record { is = omega arith; inside = omega arith; long = all_there }
@@ -88,8 +88,8 @@ pairs_of used i =
     by_place i (length used) (λ l. rw (drop-cons used i zero_command l))
     (λ l. rw (drop_of_length-le used {i = i} l, drop_of_length-le used {i = suc i} (omega arith)))
 
-pub pairs_start : (es : List SentCommand) {B : Type 0} (f : SentCommand → B) → length (map f es) ≡ 8 → (end : ℕ) → end ≤ 8 → NoneTwice es end 0 1
-pairs_start es f owned end few = record { is = pairs_of (take end es) 0; inside = omega arith; ahead = omega arith; few = few; long = all_there es f owned end few }
+pub pairs_start : (es : List SentCommand) → length es ≡ 8 → (end : ℕ) → end ≤ 8 → NoneTwice es end 0 1
+pairs_start es owned end few = record { is = pairs_of (take end es) 0; inside = omega arith; ahead = omega arith; few = few; long = all_there es owned end few }
 
 module _ (es : List SentCommand) (end i j : ℕ) (u : NoneTwice es end i j) where
   pub pairs_none : end ≤ i → false ≡ twice_among (take end es)
@@ -108,7 +108,7 @@ module _ (es : List SentCommand) (end i j : ℕ) (u : NoneTwice es end i j) wher
       pub pairs_on : b ≡ false → NoneTwice es end i (j + 1)
       unfolding among
       pairs_on e = record {
-        is = rw add-one (sym (rw (next_entry es end j u.long behind, get_or-take end es i zero_command more, ← is, e)) ∙ u.is);
+        is = rw add-one (sym (rw (get_or-take end es i zero_command more, next_entry es end j u.long behind, ← is, e)) ∙ u.is);
         inside = omega arith;
         ahead = omega arith;
         few = u.few;
@@ -126,11 +126,11 @@ module _ (es : List SentCommand) (end i j : ℕ) (u : NoneTwice es end i j) wher
     }
 
 -- ---- the table afterwards
-pub command_put : (t : Outstanding) {B : Type 0} (f : SentCommand → B) → length (map f t.entries) ≡ 8 → (c : SentCommand) → t.count < 8
+pub command_put : (t : Outstanding) → length t.entries ≡ 8 → (c : SentCommand) → t.count < 8
     → record { count = t.count + 1; entries = set t.entries t.count c } ≡ with_command t c
-command_put t f owned c l =
+command_put t owned c l =
     ap (λ (es : List SentCommand). record { count = t.count + 1; entries = es })
-    (rw (add-one, set_split t.entries t.count c (omega (arith, length-map t.entries f))))
+    (rw (add-one, set_split t.entries t.count c (omega arith)))
 
 -- one turn of moving up, and the last place
 moves_up : (i n : ℕ) (es : List SentCommand) → suc i < n → n ≤ length es → taken_out (suc i) n (set es i (get_or es (suc i) zero_command)) ≡ taken_out i n es
@@ -155,8 +155,8 @@ pub record Moving (from : List SentCommand) (at end : ℕ) (es : List SentComman
   pub few : end ≤ 8
   pub long : length es ≡ 8
 
-pub move_starts : (es : List SentCommand) {B : Type 0} (f : SentCommand → B) → length (map f es) ≡ 8 → (at end : ℕ) → at < end → end ≤ 8 → Moving es at end es at
-move_starts es f owned at end l few = record { is = refl; inside = l; few = few; long = sym (length-map es f) ∙ owned }
+pub move_starts : (es : List SentCommand) → length es ≡ 8 → (at end : ℕ) → at < end → end ≤ 8 → Moving es at end es at
+move_starts es owned at end l few = record { is = refl; inside = l; few = few; long = owned }
 
 module _ (from : List SentCommand) (at end : ℕ) (es : List SentCommand) (i : ℕ) (u : Moving from at end es i) where
   pub move_on : i + 1 < end → Moving from at end (set es i (get_or es (i + 1) zero_command)) (i + 1)
@@ -225,13 +225,13 @@ module _ (t : Outstanding) (c : SentCommand) (bad : Bool) (u : bad ≡ unfit_tab
   unfolding command_sent
   sends_unfit b h = h ∙ rw (← u, b)
 
-module _ (t : Outstanding) {B : Type 0} (f : SentCommand → B) (owned : length (map f t.entries) ≡ 8) (c : SentCommand) (i : ℕ)
+module _ (t : Outstanding) (owned : length t.entries ≡ 8) (c : SentCommand) (i : ℕ)
     (place : i ≡ command_place c (take t.count t.entries)) where
   here : t.count ≤ 8 → i < t.count → among c (awaited t) ≡ true
-  here few l = is_among c (awaited t) (omega (arith, place, all_there t.entries f owned t.count few))
+  here few l = is_among c (awaited t) (omega (arith, place, all_there t.entries owned t.count few))
 
   absent : t.count ≤ 8 → t.count ≤ i → among c (awaited t) ≡ false
-  absent few l = not_among c (awaited t) (omega (arith, place, all_there t.entries f owned t.count few))
+  absent few l = not_among c (awaited t) (omega (arith, place, all_there t.entries owned t.count few))
 
   module _ (bad : Bool) (u : bad ≡ unfit_table t) (fit : bad ≡ false) where
     pub sends_again : i < t.count → (w : Settled Unit) → w ≡ settled (refused 22) t → w ≡ command_sent t c
@@ -260,7 +260,7 @@ module _ (t : Outstanding) {B : Type 0} (f : SentCommand → B) (owned : length 
         → settled (gives fate_closed) (record { count = t.count - 1; entries = es }) ≡ or_stays t (refuse 23 when not (among c (awaited t)) otherwise gives (fate_by a t c))
     matches_closed l e es h =
         let q : es ≡ all_but c (awaited t) ++ (zero_command ∷ drop t.count t.entries) =
-        h ∙ rw place (out_is c t.count t.entries (omega (arith, length-map t.entries f)) (omega arith)) in
+        h ∙ rw place (out_is c t.count t.entries (omega arith) (omega arith)) in
         rw (here few l, e, q)
 
 -- ---- reading a response, by the rule alone

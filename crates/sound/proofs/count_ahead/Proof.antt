@@ -1,9 +1,0 @@
--- `count_ahead` meets its contract: its flags are those of the rule, in the rule's order. Assumes nothing.
-use Rattle.sound.proofs.Steps.{steps}
-use Rattle.sound.proofs.count_ahead.Statement.{statement}
-use Rattle.sound.proofs.count_ahead.Tie as tie
-
-pub count-ahead-spec : {M : Type 1} → statement M
-count-ahead-spec =
-    tie.close
-    (tie.spec (λ c κs. search steps) (λ c κs. search steps) (λ c κs. search steps) (λ c κs. search steps) (λ c. search steps))

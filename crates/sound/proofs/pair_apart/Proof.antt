@@ -1,9 +1,0 @@
--- `pair_apart` meets its contract: three tests of the rule, each by its own function. Assumes nothing.
-use Rattle.sound.proofs.Steps.{steps}
-use Rattle.sound.proofs.pair_apart.Statement.{statement}
-use Rattle.sound.proofs.pair_apart.Tie as tie
-
-pub pair-apart-spec : {M : Type 1} → statement M
-pair-apart-spec =
-    tie.close
-    (tie.spec (λ c κs. search steps) (λ c κs. search steps) (λ c κs. search steps) (λ c. search steps))
