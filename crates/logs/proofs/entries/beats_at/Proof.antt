@@ -1,9 +1,0 @@
--- `beats_at` meets its contract. Each need follows by a law of `EntryLaws`. Assumes nothing.
-use Rattle.logs.proofs.EntryLaws.{entry_steps}
-use Rattle.logs.proofs.entries.beats_at.Statement.{statement}
-use Rattle.logs.proofs.entries.beats_at.Tie as tie
-
-pub beats-at-spec : {M : Type 1} → statement M
-beats-at-spec =
-    tie.close
-    (tie.spec (λ c κs. search entry_steps) (λ c. search entry_steps))

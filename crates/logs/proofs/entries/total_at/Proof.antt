@@ -1,9 +1,0 @@
--- `total_at` meets its contract. Each need follows by a law of `EntryLaws`. Assumes nothing.
-use Rattle.logs.proofs.EntryLaws.{entry_steps}
-use Rattle.logs.proofs.entries.total_at.Statement.{statement}
-use Rattle.logs.proofs.entries.total_at.Tie as tie
-
-pub total-at-spec : {M : Type 1} → statement M
-total-at-spec =
-    tie.close
-    (tie.spec (λ c κs. search entry_steps) (λ c. search entry_steps))

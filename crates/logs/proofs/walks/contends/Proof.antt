@@ -1,9 +1,0 @@
--- `contends` meets its contract. Each need follows by a law of `WalkLaws`. Assumes nothing.
-use Rattle.logs.proofs.WalkLaws.{walk_steps}
-use Rattle.logs.proofs.walks.contends.Statement.{statement}
-use Rattle.logs.proofs.walks.contends.Tie as tie
-
-pub contends-spec : {M : Type 1} → statement M
-contends-spec =
-    tie.close
-    (tie.spec (λ c κs. search walk_steps) (λ c κs. search walk_steps) (λ c κs. search walk_steps) (λ c κs. search walk_steps) (λ c κs. search walk_steps) (λ c κs. search walk_steps) (λ c κs. search walk_steps) (λ c. search walk_steps))

@@ -1,9 +1,0 @@
--- `is_dead` meets its contract. Each need follows by a law of `WalkLaws`. Assumes nothing.
-use Rattle.logs.proofs.WalkLaws.{walk_steps}
-use Rattle.logs.proofs.walks.is_dead.Statement.{statement}
-use Rattle.logs.proofs.walks.is_dead.Tie as tie
-
-pub is-dead-spec : {M : Type 1} → statement M
-is-dead-spec =
-    tie.close
-    (tie.spec (λ c κs. search walk_steps) (λ c κs. search walk_steps) (λ c. search walk_steps))

@@ -1,9 +1,0 @@
--- `is_part` meets its contract. Each need follows by a law of `WalkLaws`. Assumes nothing.
-use Rattle.logs.proofs.WalkLaws.{walk_steps}
-use Rattle.logs.proofs.walks.is_part.Statement.{statement}
-use Rattle.logs.proofs.walks.is_part.Tie as tie
-
-pub is-part-spec : {M : Type 1} → statement M
-is-part-spec =
-    tie.close
-    (tie.spec (λ c κs. search walk_steps) (λ c κs. search walk_steps) (λ c. search walk_steps))
