@@ -1,6 +1,11 @@
 // Input of a program: what its call names, read piece by piece into one buffer, with the start of a line that did not end kept before what is
 // read next. Nothing is promised but that every call is safe.
-use libc::{STDERR_FILENO, STDIN_FILENO};
+ghost use Rattle.std.specs.Prelude.{◌≤◌, length, IfOk};
+
+use std::env::{Env, FillError};
+use std::fs::File;
+use std::io;
+use std::io::Read;
 
 // The most characters of a line.
 const MOST: usize = 9000;
@@ -14,12 +19,18 @@ pub struct Input {
     // whether more than fit were read of that line, so that it is passed, and whether it is a comment
     pub long: bool,
     comment: bool,
-    // what is read, and which word of the call names what is read next
-    fd: i32,
+    // which word of the call names what is read next
     next: usize,
     // whether there is more to read, and whether reading and writing have gone well
     more: bool,
     pub well: bool,
+}
+
+// What is read: standard input, or a file that a word of the call names. A file is closed when the next one takes its place.
+#[derive(Drop)]
+pub enum Source {
+    Standard,
+    Named(File),
 }
 
 // Whether there is something to do: more to read, or characters that were read.
@@ -28,68 +39,102 @@ pub fn goes_on(i: Input) -> bool {
 }
 
 // ---- words and files
+// How many characters a word of the call has; 0 if there is no such word, or if it does not fit.
+fn word_at(rt: HostRuntime, word: usize, path: &mut [u8]) -> usize
+    ensures { result ≤ length path.new }
+{
+    match rt.arg(word, path) {
+        Ok(n) => n,
+        Err(_) => 0,
+    }
+}
+
+// Whether the call has a word of this number.
+fn is_there(rt: HostRuntime, word: usize) -> bool {
+    let mut start = [0u8; 1];
+    match rt.arg(word, &mut start) {
+        Err(FillError::NotPresent) => false,
+        _ => true,
+    }
+}
+
 // Whether the first word of the call is -n.
-pub fn is_flag() -> bool {
-    let mut path = io::buffer();
-    let n = os::arg(1, &mut path);
+pub fn is_flag(rt: HostRuntime) -> bool {
+    let mut path = [0u8; 4096];
+    let n = word_at(rt, 1, &mut path);
     octets::same(&path[..n], b"-n")
 }
 
 // A word that is neither -n nor a file.
-fn refuse(word: &[u8]) {
-    io::write_all(STDERR_FILENO, b"replay: no use for the word ");
-    io::write_all(STDERR_FILENO, word);
-    io::write_all(STDERR_FILENO, b"\n");
+fn refuse(rt: HostRuntime, word: &[u8]) {
+    let err = rt.stderr();
+    let _ = err.write_all(b"replay: no use for the word ");
+    let _ = err.write_all(word);
+    let _ = err.write_all(b"\n");
 }
 
-// Opens a file for reading; below 0 if it cannot be, which is then said. A word that begins with - is no file.
-fn opened(word: &[u8]) -> i32 {
+// Opens a file for reading; none if it cannot be, which is then said. A word that begins with - is no file, nor is one that is no text.
+fn opened(rt: HostRuntime, word: &[u8]) -> Option<File> {
     if (word.len() == 0) | octets::same(octets::up_to(word, 1), b"-") {
-        refuse(word);
-        return -1;
+        refuse(rt, word);
+        return None;
     }
-    let fd = os::open_read(word);
-    if fd < 0 {
-        os::fail(word);
+    match std::str::from_utf8(word) {
+        Ok(path) => found(rt, path),
+        Err(_) => {
+            refuse(rt, word);
+            None
+        }
     }
-    fd
+}
+
+// The file at a path.
+fn found(rt: HostRuntime, path: &str) -> Option<File> {
+    match File::open(&rt, path) {
+        Ok(file) => Some(file),
+        Err(e) => {
+            let _ = eprintln!(rt; "{path}: {e}");
+            None
+        }
+    }
 }
 
 // The file that a word of the call names, opened.
-fn named(word: usize) -> i32 {
-    let mut path = io::buffer();
-    let n = os::arg(word, &mut path);
-    opened(&path[..n])
+fn named(rt: HostRuntime, word: usize) -> Option<File> {
+    let mut path = [0u8; 4096];
+    let n = word_at(rt, word, &mut path);
+    opened(rt, &path[..n])
 }
 
 // The next file that the call names, if there is one.
-fn after(i: Input) -> Input {
+fn after(rt: HostRuntime, i: Input, source: &mut Source) -> Input {
     let mut u = i;
-    let n = os::arg_count();
-    if i.next < n {
-        u.fd = named(i.next);
-        u.next = i.next + 1;
-        u.well = 0 <= u.fd;
+    if is_there(rt, i.next) {
+        u.next = i.next.wrapping_add(1);
+        u.well = false;
+        if let Some(file) = named(rt, i.next) {
+            *source = Source::Named(file);
+            u.well = true;
+        }
         return u;
     }
     u.more = false;
     u
 }
 
-// What is read first: the file that a word names, or standard input if the call names none.
-pub fn first(word: usize) -> Input {
+// What is read first: the file that a word names, or what it is already if the call names none.
+pub fn first(rt: HostRuntime, word: usize, source: &mut Source) -> Input {
     let i = Input {
         from: 0,
         count: 0,
         long: false,
         comment: false,
-        fd: STDIN_FILENO,
         next: word,
         more: true,
         well: true,
     };
-    if word < os::arg_count() {
-        return after(i);
+    if is_there(rt, word) {
+        return after(rt, i, source);
     }
     i
 }
@@ -143,9 +188,8 @@ fn keep(i: Input, piece: &mut [u8]) -> Input {
 
 // ---- reading
 // The end of an input. A last line may lack its end: it gets one.
-fn ended(i: Input, piece: &mut [u8]) -> Input {
-    libc::close(i.fd);
-    let mut u = after(i);
+fn ended(rt: HostRuntime, i: Input, source: &mut Source, piece: &mut [u8]) -> Input {
+    let mut u = after(rt, i, source);
     let at = i.count;
     u.count = 0;
     if at < piece.len() {
@@ -165,32 +209,41 @@ fn failed(i: Input) -> Input {
     u
 }
 
+// Reads what there is, as far as there is room.
+fn filled(rt: HostRuntime, source: &mut Source, room: &mut [u8]) -> io::Result<usize>
+    ensures { IfOk result (λ n. n ≤ length room.new) }
+{
+    match source {
+        Source::Standard => rt.stdin().read(room),
+        Source::Named(file) => file.read(room),
+    }
+}
+
 // Reads behind the characters that are kept.
-fn read(i: Input, piece: &mut [u8]) -> Input {
+fn read(rt: HostRuntime, i: Input, source: &mut Source, piece: &mut [u8]) -> Input {
     let kept = i.count;
     if piece.len() < kept {
         return failed(i);
     }
-    let room = &mut piece[kept..];
-    let got = libc::read(i.fd, room);
-    let n = io::count(got, room);
-    if got < 0 {
-        os::fail(b"replay: read");
-        return failed(i);
+    match filled(rt, source, &mut piece[kept..]) {
+        Ok(0) => ended(rt, i, source, piece),
+        Ok(n) => {
+            let mut u = i;
+            u.count = kept + n;
+            u
+        }
+        Err(e) => {
+            let _ = eprintln!(rt; "replay: read: {e}");
+            failed(i)
+        }
     }
-    if n == 0 {
-        return ended(i, piece);
-    }
-    let mut u = i;
-    u.count = kept + n;
-    u
 }
 
 // If no line ends in what is left of the piece: that is kept, and more is read behind it.
-pub fn refill(i: Input, piece: &mut [u8]) -> Input {
+pub fn refill(rt: HostRuntime, i: Input, source: &mut Source, piece: &mut [u8]) -> Input {
     let mut u = keep(i, piece);
     if u.more & u.well {
-        return read(u, piece);
+        return read(rt, u, source, piece);
     }
     u.count = 0;
     u
