@@ -16,7 +16,9 @@ pub fn say(piece: &[u8], text: &mut [u8], at: usize) -> usize {
     if text.len() - at < piece.len() {
         return at;
     }
-    at + bytes::copy(piece, &mut text[at..])
+    let end = at + piece.len();
+    text[at..end].copy_from_slice(piece);
+    end
 }
 
 // The end of a line.
@@ -81,8 +83,17 @@ fn hex(n: u64, count: usize, text: &mut [u8], at: usize) -> usize {
 // A number in decimal, with as few digits as hold it.
 pub fn number(n: u64, text: &mut [u8], at: usize) -> usize {
     let mut figures = [0u8; 20];
-    let count = io::decimal(n, &mut figures);
-    say(&figures[..count], text, at)
+    let mut n = n;
+    let mut i = 20;
+    while 0 < i {
+        i -= 1;
+        figures[i] = 48 + (n % 10) as u8;
+        n = n / 10;
+        if n == 0 {
+            return say(&figures[i..], text, at);
+        }
+    }
+    say(&figures, text, at)
 }
 
 // A blank and a number.

@@ -6,17 +6,15 @@ mod parts;
 mod take;
 
 use crate::answers::Expected;
-use libc::STDOUT_FILENO;
+use std::io;
 
 // The line of one example.
-fn line(letter: u8, number: u8) {
-    io::write_all(STDOUT_FILENO, &[letter, b' ']);
+fn line(rt: HostRuntime, letter: u8, number: u8) -> io::Result<()> {
+    let letter = letter as char;
     if number == answers::DIFFERS {
-        io::write_all(STDOUT_FILENO, b"differs");
-    } else {
-        io::print_decimal(STDOUT_FILENO, number as u64);
+        return println!(rt; "{letter} differs");
     }
-    io::write_all(STDOUT_FILENO, b"\n");
+    println!(rt; "{letter} {number}")
 }
 
 // 02 70 00 M, but with this low octet of CPL and this CHL.
@@ -41,33 +39,33 @@ fn total_of_none() -> u8 {
 }
 
 // Examples a to j: a message each.
-fn messages() {
-    line(b'a', single(0x0E, 0x0D));
-    line(b'b', single(0x0F, 0x0D));
-    line(b'c', single(0x0E, 0x0C));
-    line(b'd', single(0x0E, 0x0E));
-    line(b'e', header(2, 0, Expected::Ended));
-    line(b'f', take::message(&[0x00], Expected::Ended));
-    line(b'g', header(2, 5, Expected::Ended));
-    line(b'h', header(2, 6, answers::second(2, 0)));
-    line(b'i', total_of_none());
-    line(b'j', header(0x11, 6, Expected::Ended));
+fn messages(rt: HostRuntime) -> io::Result<()> {
+    line(rt, b'a', single(0x0E, 0x0D))?;
+    line(rt, b'b', single(0x0F, 0x0D))?;
+    line(rt, b'c', single(0x0E, 0x0C))?;
+    line(rt, b'd', single(0x0E, 0x0E))?;
+    line(rt, b'e', header(2, 0, Expected::Ended))?;
+    line(rt, b'f', take::message(&[0x00], Expected::Ended))?;
+    line(rt, b'g', header(2, 5, Expected::Ended))?;
+    line(rt, b'h', header(2, 6, answers::second(2, 0)))?;
+    line(rt, b'i', total_of_none())?;
+    line(rt, b'j', header(0x11, 6, Expected::Ended))
 }
 
 // Examples m to p: pages.
-fn pages() {
-    line(b'm', take::page(0x23, answers::second(3, 82)));
-    line(b'n', take::page(0x30, Expected::Ended));
-    line(b'o', take::page(0x32, Expected::Ended));
-    line(b'p', take::too_short());
+fn pages(rt: HostRuntime) -> io::Result<()> {
+    line(rt, b'm', take::page(0x23, answers::second(3, 82)))?;
+    line(rt, b'n', take::page(0x30, Expected::Ended))?;
+    line(rt, b'o', take::page(0x32, Expected::Ended))?;
+    line(rt, b'p', take::too_short())
 }
 
 // Every line, in the order of 01.
-fn main() {
-    messages();
-    line(b'k', parts::one_or_two());
-    line(b'l', parts::sixteen());
-    line(b'L', parts::too_long());
-    pages();
-    line(b'q', take::displaced());
+fn main(rt: HostRuntime) -> io::Result<()> {
+    messages(rt)?;
+    line(rt, b'k', parts::one_or_two())?;
+    line(rt, b'l', parts::sixteen())?;
+    line(rt, b'L', parts::too_long())?;
+    pages(rt)?;
+    line(rt, b'q', take::displaced())
 }

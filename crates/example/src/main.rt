@@ -2,33 +2,31 @@
 // How the library is used: a server notes a command and sends it; a card takes it in three parts, out of order, reads it and answers, first with a
 // report that says that the response follows, and then with the response in parts; the server takes both, and the response closes the command. It
 // prints what happens.
-use libc::STDOUT_FILENO;
 use skelmarix::{
     Answer, CELLS_OCTETS, Clear, Closing, Cntr, Kind, Outgoing, Outstanding, PACKET_OCTETS,
     PRESENT_EDITION, ParsedCommand, Spi, Taken, Tar, USER_DATA_OCTETS, command_sent, first_octets,
     no_commands, packet_in, part_in, written_in,
 };
+use std::io;
 
 // ---- printing
-fn say(words: &[u8], number: usize) {
-    io::write_all(STDOUT_FILENO, words);
-    io::print_decimal(STDOUT_FILENO, number as u64);
-    io::write_all(STDOUT_FILENO, b"\n");
+fn say(rt: HostRuntime, words: &str, number: usize) -> io::Result<()> {
+    println!(rt; "{words}{number}")
 }
 
-fn tell(part: u32, answer: Answer) {
-    say(b"  part ", part as usize);
+fn tell(rt: HostRuntime, part: u32, answer: Answer) -> io::Result<()> {
+    say(rt, "  part ", part as usize)?;
     match answer {
-        Answer::Kept { slot, displaced } => say(b"    is kept, in slot ", slot),
-        Answer::HeldAlready { slot } => say(b"    is held already, in slot ", slot),
-        Answer::Packet { length } => say(b"    completes the packet, octets: ", length),
-        Answer::Refused(why) => say(b"    is refused, number ", why.number() as usize),
+        Answer::Kept { slot, displaced } => say(rt, "    is kept, in slot ", slot),
+        Answer::HeldAlready { slot } => say(rt, "    is held already, in slot ", slot),
+        Answer::Packet { length } => say(rt, "    completes the packet, octets: ", length),
+        Answer::Refused(why) => say(rt, "    is refused, number ", why.number() as usize),
     }
 }
 
 // ---- the way over the air
 // Splits a packet into parts and takes them, the second first. The packet is at the start of `out` if the answer says so.
-fn carry(kind: Kind, packet: &[u8], out: &mut [u8]) -> Answer {
+fn carry(rt: HostRuntime, kind: Kind, packet: &[u8], out: &mut [u8]) -> io::Result<Answer> {
     let order = [2, 3, 1];
     let mut cells = [0; CELLS_OCTETS];
     let mut ud = [0; USER_DATA_OCTETS];
@@ -44,25 +42,26 @@ fn carry(kind: Kind, packet: &[u8], out: &mut [u8]) -> Answer {
         // 7 is the number of the sender
         taken = skelmarix::take_message(taken.record, 7, part_in(part, &ud), &mut cells, out);
         let answer = taken.answer;
-        tell(number, answer);
+        tell(rt, number, answer)?;
         i = i + 1;
     }
-    taken.answer
+    Ok(taken.answer)
 }
 
 // ---- the card
 // Reads the command and builds the response to it in `out`; answers how many octets it has.
-fn respond(command: &[u8], out: &mut [u8]) -> usize {
+fn respond(rt: HostRuntime, command: &[u8], out: &mut [u8]) -> io::Result<usize> {
     match skelmarix::parse_command(command) {
         ParsedCommand::Refused(why) => {
-            say(b"The command is refused, number ", why.number() as usize);
-            0
+            say(rt, "The command is refused, number ", why.number() as usize)?;
+            Ok(0)
         }
         ParsedCommand::Fields(fields) => {
             say(
-                b"The card reads the command; octets of data: ",
+                rt,
+                "The card reads the command; octets of data: ",
                 skelmarix::command_data(command).len(),
-            );
+            )?;
             let clear = fields.clear;
             let readings = [0x17; 250];
             let check = [0; 8];
@@ -75,7 +74,7 @@ fn respond(command: &[u8], out: &mut [u8]) -> usize {
                 &readings,
                 out,
             );
-            written_in(built, out).len()
+            Ok(written_in(built, out).len())
         }
     }
 }
@@ -104,25 +103,31 @@ fn in_report(going: Outgoing) -> usize {
 
 // ---- the server
 // What a response does to its command, and the table afterwards.
-fn hear(outstanding: Outstanding, response: &[u8]) -> Outstanding {
+fn hear(rt: HostRuntime, outstanding: Outstanding, response: &[u8]) -> io::Result<Outstanding> {
     let after = skelmarix::response_came(outstanding, 7, response);
     let table = after.outstanding;
     let answer = after.answer;
     match answer {
         Closing::Closed => say(
-            b"The command is closed; still waiting: ",
+            rt,
+            "The command is closed; still waiting: ",
             table.count as usize,
-        ),
+        )?,
         Closing::Waiting => say(
-            b"Another response follows; still waiting: ",
+            rt,
+            "Another response follows; still waiting: ",
             table.count as usize,
-        ),
-        Closing::Refused(why) => say(b"The response is refused, number ", why.number() as usize),
+        )?,
+        Closing::Refused(why) => say(
+            rt,
+            "The response is refused, number ",
+            why.number() as usize,
+        )?,
     }
-    table
+    Ok(table)
 }
 
-fn main() {
+fn main(rt: HostRuntime) -> io::Result<()> {
     let mut sent = [0; PACKET_OCTETS];
     let mut received = [0; PACKET_OCTETS];
     let clear = Clear {
@@ -135,19 +140,22 @@ fn main() {
     let check = [0; 8];
     let built = skelmarix::build_command(clear, Cntr(0, 0, 0, 0, 1), 0, &check, &data, &mut sent);
     say(
-        b"The server sends a command; octets: ",
+        rt,
+        "The server sends a command; octets: ",
         written_in(built, &sent).len(),
-    );
+    )?;
     let noted = command_sent(no_commands(), 7, clear.tar, Cntr(0, 0, 0, 0, 1));
-    let answer = carry(Kind::Command, written_in(built, &sent), &mut received);
-    let n = respond(packet_in(answer, &received), &mut sent);
-    say(b"The card answers; octets: ", n);
+    let answer = carry(rt, Kind::Command, written_in(built, &sent), &mut received)?;
+    let n = respond(rt, packet_in(answer, &received), &mut sent)?;
+    say(rt, "The card answers; octets: ", n)?;
     let answer = report(clear.spi, first_octets(&sent, n), &mut received);
-    let table = hear(noted.outstanding, packet_in(answer, &received));
-    let answer = carry(Kind::Response, first_octets(&sent, n), &mut received);
+    let table = hear(rt, noted.outstanding, packet_in(answer, &received))?;
+    let answer = carry(rt, Kind::Response, first_octets(&sent, n), &mut received)?;
     say(
-        b"The server has the response; octets of data: ",
+        rt,
+        "The server has the response; octets of data: ",
         skelmarix::response_data(packet_in(answer, &received), false).len(),
-    );
-    hear(table, packet_in(answer, &received));
+    )?;
+    hear(rt, table, packet_in(answer, &received))?;
+    Ok(())
 }

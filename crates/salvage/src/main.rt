@@ -2,8 +2,10 @@
 // ./run salvage copies what is sound of the capture on standard input to the file salvage.out, and prints a line for each longest run of octets
 // that it skipped: the first position, from 0, a space, and the count. A capture of more than 65,536 octets is refused: 24 is printed, and
 // salvage.out is empty. It is empty as well if reading or writing the octets fails; standard error says what failed.
-use libc::{STDERR_FILENO, STDIN_FILENO, STDOUT_FILENO};
 use skelmarix::{CAPTURE_OCTETS, Refusal, SkippedRun, Written};
+use std::fs::File;
+use std::io::{Read, Write};
+use std::{fs, io};
 
 // One octet more than a capture may have: so a longer one is noticed.
 const ROOM: usize = CAPTURE_OCTETS + 1;
@@ -12,6 +14,11 @@ const ROOM: usize = CAPTURE_OCTETS + 1;
 const NEARLY: usize = 65500;
 
 // ---- input
+// Says on standard error what failed, and why.
+fn fail(rt: HostRuntime, what: &str, e: io::Error) {
+    let _ = eprintln!(rt; "{what}: {e}");
+}
+
 // How many octets were read, and whether reading went well.
 #[derive(Clone, Copy)]
 struct Input {
@@ -20,26 +27,25 @@ struct Input {
 }
 
 // Reads to the end of standard input, or until the buffer is full.
-fn read_all(file: &mut [u8]) -> Input {
+fn read_all(rt: HostRuntime, file: &mut [u8]) -> Input {
     let mut count = 0;
     while count < file.len() {
-        let room = &mut file[count..];
-        let got = libc::read(STDIN_FILENO, room);
-        let n = io::count(got, room);
-        if got < 0 {
-            os::fail(b"salvage: read");
-            return Input {
-                count: 0,
-                well: false,
-            };
+        match rt.stdin().read(&mut file[count..]) {
+            Ok(0) => {
+                return Input {
+                    count: count,
+                    well: true,
+                };
+            }
+            Ok(n) => count += n,
+            Err(e) => {
+                fail(rt, "salvage: read", e);
+                return Input {
+                    count: 0,
+                    well: false,
+                };
+            }
         }
-        if n == 0 {
-            return Input {
-                count: count,
-                well: true,
-            };
-        }
-        count += n;
     }
     Input {
         count: count,
@@ -49,44 +55,39 @@ fn read_all(file: &mut [u8]) -> Input {
 
 // ---- the file
 // Makes the file, empty. Nothing that an earlier run left can be taken for what this one copies.
-fn emptied() -> bool {
-    let fd = os::open_overwrite(b"salvage.out");
-    if fd < 0 {
-        os::fail(b"salvage.out");
-        return false;
+fn emptied(rt: HostRuntime) -> bool {
+    match File::create(&rt, "salvage.out") {
+        Ok(_) => true,
+        Err(e) => {
+            fail(rt, "salvage.out", e);
+            false
+        }
     }
-    libc::close(fd);
-    true
 }
 
-// Writes octets to an open file and closes it; if that fails, says so.
-fn written(fd: i32, octets: &[u8]) -> bool {
-    let well = io::write_all(fd, octets);
-    if !well {
-        os::fail(b"salvage.out.new");
-    }
-    let closed = libc::close(fd);
-    if closed < 0 {
-        os::fail(b"salvage.out.new");
-        return false;
-    }
-    well
+// Writes octets to an open file and closes it. Closing tells no error, so what it could tell is asked for before: whether they are on the disk.
+fn written(mut file: File, octets: &[u8]) -> io::Result<()> {
+    file.write_all(octets)?;
+    file.sync_all()
 }
 
 // Makes salvage.out of octets. They are written under another name first, so that no part of them is ever taken for all.
-fn kept(octets: &[u8]) -> bool {
-    let fd = os::open_overwrite(b"salvage.out.new");
-    if fd < 0 {
-        os::fail(b"salvage.out.new");
+fn kept(rt: HostRuntime, octets: &[u8]) -> bool {
+    let file = match File::create(&rt, "salvage.out.new") {
+        Ok(file) => file,
+        Err(e) => {
+            fail(rt, "salvage.out.new", e);
+            return false;
+        }
+    };
+    if let Err(e) = written(file, octets) {
+        fail(rt, "salvage.out.new", e);
+        let _ = fs::remove_file(&rt, "salvage.out.new");
         return false;
     }
-    if !written(fd, octets) {
-        os::unlink(b"salvage.out.new");
-        return false;
-    }
-    if os::rename(b"salvage.out.new", b"salvage.out") < 0 {
-        os::fail(b"salvage.out");
-        os::unlink(b"salvage.out.new");
+    if let Err(e) = fs::rename(&rt, "salvage.out.new", "salvage.out") {
+        fail(rt, "salvage.out", e);
+        let _ = fs::remove_file(&rt, "salvage.out.new");
         return false;
     }
     true
@@ -94,12 +95,14 @@ fn kept(octets: &[u8]) -> bool {
 
 // ---- what is printed
 // Writes the text so far; if that fails, says so.
-fn printed(text: &[u8], end: usize) -> bool {
-    let well = io::write_all(STDOUT_FILENO, skelmarix::first_octets(text, end));
-    if !well {
-        os::fail(b"salvage: write");
+fn printed(rt: HostRuntime, text: &[u8], end: usize) -> bool {
+    match rt.write_all(skelmarix::first_octets(text, end)) {
+        Ok(()) => true,
+        Err(e) => {
+            fail(rt, "salvage: write", e);
+            false
+        }
     }
-    well
 }
 
 // A line for a run, behind the text so far.
@@ -111,7 +114,7 @@ fn line(run: SkippedRun, text: &mut [u8], end: usize) -> usize {
 }
 
 // A line for each run of octets that was skipped.
-fn tell(file: &[u8], text: &mut [u8]) {
+fn tell(rt: HostRuntime, file: &[u8], text: &mut [u8]) {
     let mut from = 0;
     let mut end = 0;
     while from < file.len() {
@@ -122,50 +125,47 @@ fn tell(file: &[u8], text: &mut [u8]) {
         from = run.next;
         end = line(run, text, end);
         if NEARLY < end {
-            if !printed(text, end) {
+            if !printed(rt, text, end) {
                 return;
             }
             end = 0;
         }
     }
-    printed(text, end);
+    printed(rt, text, end);
 }
 
 // The number of the refusal, alone; and on standard error the reason.
-fn refuse(why: Refusal) {
-    io::print_decimal(STDOUT_FILENO, why.number() as u64);
-    io::write_all(STDOUT_FILENO, b"\n");
-    io::write_all(
-        STDERR_FILENO,
-        b"salvage: refused, a capture has at most 65,536 octets\n",
-    );
+fn refuse(rt: HostRuntime, why: Refusal) {
+    let _ = println!(rt; "{}", why.number());
+    let _ = eprintln!(rt; "salvage: refused, a capture has at most 65,536 octets");
 }
 
 // ---- the program
 // Keeps what is sound of a file, and tells what is skipped. There is room for all of the file, since the buffers are of one length.
-fn salvage(file: &[u8], space: &mut [u8], text: &mut [u8]) {
+fn salvage(rt: HostRuntime, file: &[u8], space: &mut [u8], text: &mut [u8]) {
     let n = file.len();
     if space.len() < n {
         return;
     }
     let answer = skelmarix::salvage(file, &mut space[0..n]);
     match answer {
-        Written::Refused(why) => refuse(why),
+        Written::Refused(why) => refuse(rt, why),
         Written::Octets(copied) => {
-            if kept(skelmarix::first_octets(space, copied)) {
-                tell(file, text);
+            if kept(rt, skelmarix::first_octets(space, copied)) {
+                tell(rt, file, text);
             }
         }
     }
 }
 
-fn main() {
+fn main(rt: HostRuntime) {
     let mut file = [0u8; ROOM];
     let mut space = [0u8; ROOM];
-    let mut text = io::large_buffer();
-    let input = read_all(&mut file);
-    if emptied() & input.well {
+    let mut text = [0u8; 65536];
+    let input = read_all(rt, &mut file);
+    if emptied(rt) & input.well {
         salvage(
+            rt,
             skelmarix::first_octets(&file, input.count),
             &mut space,
             &mut text,

@@ -3,10 +3,9 @@
 // promised but that every call is safe.
 pub mod piece;
 
-use libc::STDOUT_FILENO;
 use regions::Chosen;
 use words::input;
-use words::input::Input;
+use words::input::{Input, Source};
 
 // Past this place of the text there may be too little room for another answer.
 const NEARLY: usize = 32000;
@@ -38,13 +37,16 @@ pub fn with_tally(s: Session, t: Tally) -> Session {
 
 // ---- writing
 // Writes the text so far, unless something went wrong.
-fn written(t: Tally, text: &[u8]) -> Tally {
+fn written(rt: HostRuntime, t: Tally, text: &[u8]) -> Tally {
     let mut u = t;
     if t.input.well {
-        let well = io::write_all(STDOUT_FILENO, skelmarix::first_octets(text, t.end));
-        if !well {
-            os::fail(b"replay: write");
-        }
+        let well = match rt.write_all(skelmarix::first_octets(text, t.end)) {
+            Ok(()) => true,
+            Err(e) => {
+                let _ = eprintln!(rt; "replay: write: {e}");
+                false
+            }
+        };
         u.end = 0;
         u.input.well = well;
     }
@@ -52,10 +54,10 @@ fn written(t: Tally, text: &[u8]) -> Tally {
 }
 
 // The line that ends at a place: room for its answer, and its number.
-fn next(t: Tally, end: usize, text: &[u8]) -> Tally {
+fn next(rt: HostRuntime, t: Tally, end: usize, text: &[u8]) -> Tally {
     let mut u = t;
     if NEARLY < t.end {
-        u = written(t, text);
+        u = written(rt, t, text);
     }
     let from = std::num::wrapping_add_usize(end, 1);
     u.input.from = from;
@@ -66,8 +68,8 @@ fn next(t: Tally, end: usize, text: &[u8]) -> Tally {
 
 // ---- a line
 // Begins the answer of a line: with the line's number, if answers are numbered.
-fn begin(t: Tally, end: usize, numbered: bool, text: &mut [u8]) -> Tally {
-    let mut u = next(t, end, text);
+fn begin(rt: HostRuntime, t: Tally, end: usize, numbered: bool, text: &mut [u8]) -> Tally {
+    let mut u = next(rt, t, end, text);
     if !numbered {
         return u;
     }
@@ -108,6 +110,7 @@ fn pass(t: Tally, line: &[u8], text: &mut [u8]) -> Tally {
 
 // Takes a line that has ended, at a place of the piece.
 pub fn take(
+    rt: HostRuntime,
     line: &mut [u8],
     end: usize,
     s: Session,
@@ -116,7 +119,7 @@ pub fn take(
     buffer: &mut [u8],
     text: &mut [u8],
 ) -> Session {
-    let t = begin(s.tally, end, s.chosen.bench.numbered, text);
+    let t = begin(rt, s.tally, end, s.chosen.bench.numbered, text);
     if input::is_long(t.input, line) {
         return with_tally(s, pass(t, line, text));
     }
@@ -130,18 +133,24 @@ pub fn take(
 
 // ---- input
 // If no line ends in what is left of the piece: the answers are written, and more is read.
-pub fn refill(t: Tally, piece: &mut [u8], text: &[u8]) -> Tally {
-    let mut u = written(t, text);
-    u.input = input::refill(u.input, piece);
+pub fn refill(
+    rt: HostRuntime,
+    t: Tally,
+    source: &mut Source,
+    piece: &mut [u8],
+    text: &[u8],
+) -> Tally {
+    let mut u = written(rt, t, text);
+    u.input = input::refill(rt, u.input, source, piece);
     u
 }
 
 // The session to begin with.
-pub fn start(numbers: bool) -> Session {
+pub fn start(rt: HostRuntime, numbers: bool, source: &mut Source) -> Session {
     Session {
         chosen: chosen::start(numbers),
         tally: Tally {
-            input: input::first(if numbers { 2 } else { 1 }),
+            input: input::first(rt, if numbers { 2 } else { 1 }, source),
             lines: 0,
             wrong: 0,
             end: 0,

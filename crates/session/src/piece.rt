@@ -21,13 +21,26 @@ fn without_return(piece: &[u8], from: usize, end: usize) -> usize
     end
 }
 
+// The place of the first line feed from a place on, among so many characters; if there is none, where they end.
+fn line_feed(piece: &[u8], from: usize, count: usize) -> usize
+    requires { (from ≤ count) × (count ≤ length piece.now) }
+    ensures { (from ≤ result) × (result ≤ length piece.now) }
+{
+    for at in from..count {
+        if piece[at] == 10 {
+            return at;
+        }
+    }
+    count
+}
+
 // The next line from a place on, among so many characters. If none ends there, its end is where they end.
 pub fn next_line(piece: &[u8], from: usize, count: usize) -> Span
     ensures { (result.from ≤ result.last) × (result.last ≤ length piece.now) }
 {
     if from <= count {
         if count <= piece.len() {
-            let end = bytes::scan::find(piece, from, count, 10);
+            let end = line_feed(piece, from, count);
             let last = without_return(piece, from, end);
             return Span {
                 from: from,
