@@ -1,8 +1,0 @@
--- `answer` meets its contract: in each arm the answer is known, and what is put into the lent numbers is what is heard of it. Assumes nothing.
-use Rattle.heard.specs.Steps.{steps}
-use Rattle.heard.proofs.hear.answer.Statement.{statement}
-use Rattle.heard.proofs.hear.answer.Tie as tie
-
-pub answer-spec : {M : Type 1} → statement M
-answer-spec =
-    tie.close (tie.spec (λ c. search steps) (λ c κs. search steps) (λ c. search steps) (λ c. search steps) (λ c. search steps) (λ c κs. search steps) (λ c. search steps) (λ c. search steps) (λ c. search steps) (λ c. search steps))

@@ -1,8 +1,0 @@
--- `arrival` meets its contract: in each arm the answer is known, and what is put into the lent numbers is what is heard of it. Assumes nothing.
-use Rattle.heard.specs.Steps.{steps}
-use Rattle.heard.proofs.hear.arrival.Statement.{statement}
-use Rattle.heard.proofs.hear.arrival.Tie as tie
-
-pub arrival-spec : {M : Type 1} → statement M
-arrival-spec =
-    tie.close (tie.spec (λ c. search steps) (λ c. search steps) (λ c. search steps) (λ c. search steps) (λ c. search steps) (λ c. search steps) (λ c. search steps) (λ c. search steps) (λ c. search steps) (λ c. search steps) (λ c κs. search steps) (λ c. search steps) (λ c. search steps) (λ c. search steps))

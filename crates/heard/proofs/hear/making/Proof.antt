@@ -1,8 +1,0 @@
--- `making` meets its contract: in each arm the answer is known, and what is put into the lent numbers is what is heard of it. Assumes nothing.
-use Rattle.heard.specs.Steps.{steps}
-use Rattle.heard.proofs.hear.making.Statement.{statement}
-use Rattle.heard.proofs.hear.making.Tie as tie
-
-pub making-spec : {M : Type 1} → statement M
-making-spec =
-    tie.close (tie.spec (λ c. search steps) (λ c. search steps) (λ c κs. search steps) (λ c. search steps) (λ c. search steps))
