@@ -1,9 +1,0 @@
--- `alter` meets its contract. Each need follows by a law of `CopyLaws`. Assumes nothing.
-use Rattle.copies.proofs.CopyLaws.{copy_steps}
-use Rattle.copies.proofs.alter.Statement.{statement}
-use Rattle.copies.proofs.alter.Tie as tie
-
-pub alter-spec : {M : Type 1} → statement M
-alter-spec =
-    tie.close
-    (tie.spec (λ c κs. search copy_steps) (λ c κs. search copy_steps) (λ c κs. search copy_steps) (λ c κs. search copy_steps) (λ c κs. search copy_steps) (λ c κs. search copy_steps) (λ c. search copy_steps) (λ c. search copy_steps))

@@ -1,9 +1,0 @@
--- `beats_after` meets its contract. Each need follows by a law of `CopyLaws`. Assumes nothing.
-use Rattle.copies.proofs.CopyLaws.{copy_steps}
-use Rattle.copies.proofs.beats_after.Statement.{statement}
-use Rattle.copies.proofs.beats_after.Tie as tie
-
-pub beats-after-spec : {M : Type 1} → statement M
-beats-after-spec =
-    tie.close
-    (tie.spec (λ c. search copy_steps) (λ c. search copy_steps) (λ c. search copy_steps) (λ c. search copy_steps) (λ c. search copy_steps) (λ c. search copy_steps) (λ c. search copy_steps) (λ c. search copy_steps) (λ c. search copy_steps))
