@@ -1,9 +1,0 @@
--- `hand_out_series` meets its contract. Each need follows by a law of `PacketLaws`. Assumes nothing.
-use Rattle.second.proofs.PacketLaws.{packet_steps}
-use Rattle.second.proofs.packets.hand_out_series.Statement.{statement}
-use Rattle.second.proofs.packets.hand_out_series.Tie as tie
-
-pub hand-out-series-spec : {M : Type 1} → statement M
-hand-out-series-spec =
-    tie.close
-    (tie.spec (λ c. search packet_steps) (λ c κs. search packet_steps) (λ c. search packet_steps) (λ c κs. search packet_steps) (λ c κs. search packet_steps) (λ c. search packet_steps) (λ c. search packet_steps))
