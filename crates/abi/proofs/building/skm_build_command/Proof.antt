@@ -1,8 +1,0 @@
--- `skm_build_command` meets its contract: the call's answer is the rule's outcome, and what is heard of the one is heard of the other. Assumes nothing.
-use Rattle.heard.specs.Steps.{steps}
-use Rattle.abi.proofs.building.skm_build_command.Statement.{statement}
-use Rattle.abi.proofs.building.skm_build_command.Tie as tie
-
-pub skm-build-command-spec : {M : Type 1} → statement M
-skm-build-command-spec =
-    tie.close (tie.spec (λ c κs. search steps) (λ c κs. search steps) (λ c κs. search steps) (λ c. search steps) (λ c. search steps))

@@ -1,8 +1,0 @@
--- `skm_parse_response` meets its contract: the call's answer is the rule's outcome, and what is heard of the one is heard of the other. Assumes nothing.
-use Rattle.heard.specs.Steps.{steps}
-use Rattle.abi.proofs.packets.skm_parse_response.Statement.{statement}
-use Rattle.abi.proofs.packets.skm_parse_response.Tie as tie
-
-pub skm-parse-response-spec : {M : Type 1} → statement M
-skm-parse-response-spec =
-    tie.close (tie.spec (λ c κs. search steps) (λ c κs. search steps) (λ c. search steps))

@@ -1,8 +1,0 @@
--- `skm_beat` meets its contract: the call's answer is the rule's outcome, and what is heard of the one is heard of the other. Assumes nothing.
-use Rattle.heard.specs.Steps.{steps}
-use Rattle.abi.proofs.states.skm_beat.Statement.{statement}
-use Rattle.abi.proofs.states.skm_beat.Tie as tie
-
-pub skm-beat-spec : {M : Type 1} → statement M
-skm-beat-spec =
-    tie.close (tie.spec (λ c κs. search steps) (λ c κs. search steps) (λ c κs. search steps) (λ c. search steps))
