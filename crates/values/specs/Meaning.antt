@@ -14,8 +14,8 @@ abbrev pub way_of : ℕ → List ℕ → ℕ
 way_of row octets = cond (eqb row 60) (captured_way row (record_in (drop 4 octets))) row
 
 -- its own octets stand behind the sender, and behind mark and head
-abbrev pub field_own : ℕ → ℕ
-field_own row = cond (eqb row 60) (4 + record_head) (cond (eqb row 1) 4 0)
+abbrev pub own_at : ℕ → ℕ
+own_at row = cond (eqb row 60) (4 + record_head) (cond (eqb row 1) 4 0)
 
 -- a number of slots: five if the line has none, and the greatest that the call takes if it is greater
 abbrev pub slots_asked : ℕ → ℕ → ℕ
