@@ -1,4 +1,4 @@
-/* A command is built, split and taken out of order. Run: cc -I c examples/example.c target/staticlib/libabi.a && ./a.out */
+/* A command is built, split and taken out of order. Run: cc -I c examples/example.c crates/abi/out/libabi.a && ./a.out */
 #include <stdio.h>
 #include "skelmarix.h"
 

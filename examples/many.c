@@ -1,6 +1,6 @@
 /* A server with many cards, in threads that share nothing: each has its own cards, and there is no lock. Each card gets a packet in three parts, out of
    order; a part goes to another card each time, so that a state is out of the processor's cache when its turn comes.
-   Run: cc -O2 -pthread -I c examples/many.c target/staticlib/libabi.a -o many && ./many CARDS THREADS */
+   Run: cc -O2 -pthread -I c examples/many.c crates/abi/out/libabi.a -o many && ./many CARDS THREADS */
 #define _POSIX_C_SOURCE 200809L
 #include <pthread.h>
 #include <stdio.h>
