@@ -30,7 +30,7 @@ use Rattle.arrival.specs.Message.{alone, opens, own, foreign, misplaced, message
 use Rattle.arrival.specs.Page.{serial_in, identifier_in, parameter_in, one_of_one, page_total, page_number, page_key, no_pages, identifier_in_range, misdirected, read_page}
 use Rattle.arrival.specs.Keys.{room}
 use Rattle.header.specs.Reading.{nothing_seen, seen_after, collected, walked}
-use Rattle.header.specs.Laws.{after_wrong, seen_summary}
+use Rattle.header.proofs.SeenLaws.{after_wrong, seen_summary}
 
 -- what was seen is judged as the summary is
 judged_all : (k : Kind) (sender start : ℕ) (es : List Item) → judged k sender start (seen_after nothing_seen es) ≡ judged k sender start (summary es)
