@@ -14,7 +14,8 @@ use Rattle.types.specs.declared.Kind.{Kind}
 use Rattle.types.specs.declared.Kind.TheVariants.{Command, Response}
 use Rattle.types.specs.Refusals.{refused, gives, Lent, lent, writes}
 use Rattle.packet.specs.Packets.{least, chl, well_formed, within, fields_behind, against_check, fixed_octets, runs_from, summed, checksum_octets, checksummed}
-use Rattle.packet.specs.Laws.{within_facts, formed_within, before_least}
+use Rattle.packet.specs.Laws.{within_facts, before_least}
+use Rattle.packet.proofs.PacketLaws.{formed_within}
 
 -- ---- the fixed octets
 pub fixed_command : (k : Kind) → k ≡ Command → 0 ≡ length (fixed_octets k)

@@ -22,7 +22,8 @@ use Rattle.types.specs.Refusals.{refused, gives, refusal_number}
 use Rattle.packet.specs.declared.read.Judged.{Judged}
 use Rattle.packet.specs.declared.read.Judged.TheVariants as judged
 use Rattle.packet.specs.Packets.{chl, ciphered_command, readable}
-use Rattle.packet.specs.Judging.{told_judged, judged_formed, judged_readable, judged_refused}
+use Rattle.packet.specs.Judging.{told_judged, judged_readable, judged_refused}
+use Rattle.packet.proofs.PacketLaws.{judged_formed}
 use Rattle.counters.specs.Counters.{counter_number, all_ones, in_use, zero_entry, entry_at, same_tar, place_of, has_tar, named_twice, unfit_counters, with_counter, command_tar, command_counter, counter_bits, counter_status, judged_at, judged_by, Assessed, assessed, or_leaves, judge_counter}
 
 -- ---- the entries in use

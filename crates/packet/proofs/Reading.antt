@@ -16,7 +16,8 @@ use Rattle.packet.specs.declared.read.Judged.{Judged}
 use Rattle.packet.specs.declared.read.Judged.TheVariants as judged
 use Rattle.types.specs.Refusals.{Outcome, refused, gives, refuse◌when◌otherwise◌, refusal_number}
 use Rattle.packet.specs.Packets.{least, chl, formed_by, well_formed, ciphered_command, fields_behind, fields_of, against_check, Parsed, measured, parsing_behind, sized, readable, parsing}
-use Rattle.packet.specs.Laws.{PacketLengths, formed_facts, formed_within, before_least, least_most}
+use Rattle.packet.specs.Laws.{PacketLengths, before_least, least_most}
+use Rattle.packet.proofs.PacketLaws.{formed_facts, formed_within}
 use Rattle.packet.specs.Judging.{told_judged, and_then}
 use Rattle.packet.proofs.Fields.{bit_told}
 

@@ -7,7 +7,6 @@ use Rattle.packet.specs.declared.read.Judged.{Judged}
 use Rattle.packet.specs.declared.read.Judged.TheVariants as judged
 use Rattle.types.specs.Refusals.{Outcome, refused, gives, refuse◌when◌otherwise◌, refusal_number}
 use Rattle.packet.specs.Packets.{chl, well_formed, fields_of, against_check, readable, shown, shown_by}
-use Rattle.packet.specs.Laws.{PacketLengths, formed_facts}
 
 -- what the answer to "can this packet be read" says: the header length, or the refusal
 abbrev pub told_judged : Judged → Outcome ℕ
@@ -55,9 +54,6 @@ module _ (k : Kind) (c : Bool) (p : List ℕ) where
     module _ (h : ℕ) (t : j ≡ judged.Readable h) where
       facts : Readable × (h ≡ chl p)
       facts = readable_gives (chl p) h (sym (ap told_judged t) ∙ e)
-
-      pub judged_formed : PacketLengths k p
-      judged_formed = formed_facts k p facts.0.formed
 
       pub judged_header : h ≡ chl p
       judged_header = facts.1

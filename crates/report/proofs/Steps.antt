@@ -18,7 +18,8 @@ use Rattle.packet.specs.declared.read.Judged.TheVariants as judged
 use Rattle.types.specs.Refusals.{refused, gives, refuse◌when◌otherwise◌, refusal_number}
 use Rattle.packet.specs.Packets.{chl, readable}
 use Rattle.packet.specs.Laws.{PacketLengths}
-use Rattle.packet.specs.Judging.{told_judged, judged_formed, judged_size, judged_readable, judged_refused}
+use Rattle.packet.specs.Judging.{told_judged, judged_size, judged_readable, judged_refused}
+use Rattle.packet.proofs.PacketLaws.{judged_formed}
 use Rattle.report.specs.Reporting.{nothing_goes, in_report, announced, submitted, asked, reserved, no_capacity, report_of, before_status, announcing, going_out, reporting, Reported, reported, writes_report, write_report, known_edition, announced_by, announces_another, response_announces}
 use Rattle.report.specs.Laws.{announcing_octets, announcing_length}
 

@@ -16,7 +16,7 @@ use Rattle.types.specs.declared.Kind.{Kind}
 use Rattle.types.specs.declared.Kind.TheVariants.{Command}
 use Rattle.types.specs.Refusals as reading
 use Rattle.packet.specs.Packets.{most_octets, well_formed}
-use Rattle.packet.specs.Laws.{formed_facts}
+use Rattle.packet.proofs.PacketLaws.{formed_facts}
 use Rattle.types.specs.declared.Key.{Key}
 use Rattle.arrival.specs.Arrivals.{Brought, single}
 use Rattle.arrival.specs.Page.{page_key}

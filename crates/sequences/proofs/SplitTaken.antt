@@ -14,7 +14,7 @@ use Rattle.types.specs.declared.Kind.{Kind}
 use Rattle.types.specs.declared.Kind.TheVariants.{Command}
 use Rattle.types.specs.Refusals as reading
 use Rattle.packet.specs.Packets.{well_formed}
-use Rattle.packet.specs.Laws.{formed_facts}
+use Rattle.packet.proofs.PacketLaws.{formed_facts}
 use Rattle.types.specs.declared.Key.{Key}
 use Rattle.arrival.specs.Arrivals.{single, part}
 use Rattle.arrival.specs.Page.{page_content, page_header, page_key, identifier_in_range}

@@ -14,7 +14,7 @@ use Rattle.octets.specs.Octets.{placed}
 use Rattle.octets.specs.Tests.{clash, Same, same, other, same?}
 use Rattle.types.specs.declared.Kind.{Kind}
 use Rattle.packet.specs.Packets.{cpl, well_formed}
-use Rattle.packet.specs.Laws.{formed_facts}
+use Rattle.packet.proofs.PacketLaws.{formed_facts}
 use Rattle.types.specs.declared.Key.{Key}
 use Rattle.arrival.specs.Message.{most_parts}
 use Rattle.arrival.specs.Keys.{of_pages}

@@ -13,7 +13,7 @@ use Rattle.types.specs.declared.Kind.TheVariants.{Command}
 use Rattle.types.specs.declared.Refusal.{Refusal}
 use Rattle.types.specs.Refusals.{Outcome, refused, gives, refuse◌when◌otherwise◌, refusal_number}
 use Rattle.packet.specs.Packets.{well_formed}
-use Rattle.packet.specs.Laws.{formed_facts}
+use Rattle.packet.proofs.PacketLaws.{formed_facts}
 use Rattle.arrival.specs.Message.{most_user_data}
 use Rattle.arrival.specs.Page.{page_octets, identifier_in_range}
 use Rattle.arrival.specs.Keys.{reference_fits}

@@ -18,7 +18,8 @@ use Rattle.types.specs.declared.ResponseBody.TheVariants as response
 use Rattle.types.specs.Refusals.{Outcome, refused, gives, refuse◌when◌otherwise◌}
 use Rattle.packet.specs.Packets.{most_octets, well_formed, plain, fields_of, measured, parsing, building, packet_of}
 use Rattle.packet.specs.Told.{response_fixed, response_fields}
-use Rattle.packet.specs.Laws.{formed_facts, readable_formed, built_formed, built_parsed}
+use Rattle.packet.specs.Laws.{readable_formed}
+use Rattle.packet.proofs.PacketLaws.{formed_facts, built_formed, built_parsed}
 use Rattle.series.specs.Calls.{message}
 use Rattle.split.specs.Splitting as split
 use Rattle.split.specs.Laws.{one_part, part_whole}

@@ -15,7 +15,8 @@ use Rattle.types.specs.declared.ResponseBody.TheVariants as response
 use Rattle.types.specs.Refusals.{gives, writes}
 use Rattle.packet.specs.Packets.{most_octets, Fields, plain, ciphered, fields_of, Parsed, measured, readable, parsing, shown, secured_of, check_of, opaque_of, shown_data, shown_check, shown_opaque, packet_of, building, built, ciphered_command}
 use Rattle.packet.specs.Told.{command_fields, response_fields}
-use Rattle.packet.specs.Laws.{readable_formed, built_formed, built_checksum, built_cipher, built_parsed, built_data, built_check, built_opaque, read_built}
+use Rattle.packet.specs.Laws.{readable_formed, built_cipher}
+use Rattle.packet.proofs.PacketLaws.{built_formed, built_checksum, built_parsed, built_data, built_check, built_opaque, read_built}
 use Rattle.packet.specs.Judging.{readable_gives}
 use Rattle.split.specs.Laws.{parts_join, pages_join}
 use Rattle.split.specs.ReadBack.{read_single, single_octets, read_part, own_octets, read_single_page, read_page_lem, content_octets}
