@@ -1,13 +1,9 @@
 -- What was seen, one element after the other, comes to the summary, if none is of wrong length.
-use Rattle.std.specs.Prelude.{ℕ, suc, zero, ◌≤◌, ◌≡◌, refl, List, [], ◌∷◌, ◌++◌, Bool, true, false, cond, ◌||◌, length, take, drop, leb, eqb}
-use Rattle.std.proofs.Common.{sym, ap, ◌∙◌, arith, eqb-true}
-use Rattle.std.proofs.Math.Path.{subst⁻¹}
+use Rattle.std.specs.Prelude.{ℕ, ◌≡◌, refl, List, [], ◌∷◌, Bool, true, false, cond, ◌||◌}
+use Rattle.std.proofs.Common.{sym, ap, ◌∙◌, arith}
 use Rattle.std.proofs.Math.Bool.{or-false}
-use Rattle.std.proofs.Math.Option.{Option, none, some}
-use Rattle.std.proofs.lemmas.List.{take-append-le}
-use Rattle.std.proofs.Math.Dec.{leb-suc-suc, leb-zero, leb-suc-zero}
 use Rattle.header.specs.declared.Seen.{Seen}
-use Rattle.header.specs.Header.{Item, item, ◌∷?◌, elements, has, is_concatenation, wrong_length, concatenation_in, any_of, last_concatenation, summary, elements_after}
+use Rattle.header.specs.Header.{Item, has, is_concatenation, wrong_length, concatenation_in, any_of, last_concatenation, summary}
 use Rattle.header.specs.Reading.{nothing_seen, wrong_seen, noted, added, seen_after}
 use Rattle.octets.specs.Tests.{neither}
 
