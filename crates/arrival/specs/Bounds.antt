@@ -1,27 +1,23 @@
 -- How the laws of reading are shown: what the elements take of a header, what a concatenation says, and what was tested where something
--- is given.
+-- is given. What follows for a message that is given stands in proofs/MessageLaws.antt.
 use Rattle.std.specs.Prelude.{ℕ, zero, suc, ◌+◌, ◌*◌, ◌/◌, ◌%◌, ◌≤◌, ◌<◌, ◌≡◌, List, [], ◌∷◌, Bool, true, false, cond, ◌||◌, length, get_or, take, drop, eqb, ltb, leb}
 use Rattle.std.proofs.Math.Path.{refl}
-use Rattle.std.proofs.Common.{sym, ◌∙◌, subst, arith, length-take-le, get_or-drop}
+use Rattle.std.proofs.Common.{subst, arith, length-take-le, get_or-drop}
 use Rattle.std.proofs.Math.Bool.{not, or-true}
 use Rattle.std.proofs.Math.Option.{Option, none, some}
-use Rattle.std.proofs.Math.ListN.{length-drop}
-use borrow.Author.Tests.{eqb-true, not-false, eqb-false, ne_eqb, lt-ltb, ltb-false, leb-false}
+use borrow.Author.Tests.{eqb-true, not-false, eqb-false, lt-ltb, ltb-false, leb-false}
 use Rattle.octets.specs.Tests.{neither}
 use Rattle.types.specs.declared.Kind.{Kind}
-use Rattle.types.specs.declared.Kind.TheVariants.{Command, Response}
 use Rattle.types.specs.Refusals.{Outcome, gives, refuse◌when◌otherwise◌}
-use Rattle.packet.specs.Packets.{differ}
 use Rattle.octets.specs.Octets.{Octets, number_of}
 use Rattle.octets.specs.Laws.{number_fits}
 use Rattle.header.specs.declared.Concatenation.{Concatenation}
-use Rattle.header.specs.declared.Seen.{Seen}
 use Rattle.header.specs.Laws.{by_number}
 use Rattle.arrival.specs.Arrivals.{Brought, single, part}
 use Rattle.header.specs.Header.{Item, item, ◌∷?◌, elements_after, elements, has, is_concatenation, wrong_length, concatenation_in, no_concatenation, any_of, last_concatenation, concatenation_of, summary}
-use Rattle.arrival.specs.Message.{most_user_data, udhl, header_octets, after_header, alone, own, foreign, opens, misplaced, most_parts, message_key, judged, where_read, read_message}
+use Rattle.arrival.specs.Message.{most_user_data, udhl, header_octets, after_header, judged, where_read, read_message}
 use Rattle.arrival.specs.Page.{page_octets, page_header, serial_in, identifier_in, parameter_in, one_of_one, page_number, page_total, identifier_in_range, no_pages, page_key, read_page}
-use Rattle.arrival.specs.Keys.{reference_fits, room}
+use Rattle.arrival.specs.Keys.{reference_fits}
 
 -- ---- the elements fill the header
 -- what elements take of a header: each its identifier, its length and its octets
@@ -51,11 +47,6 @@ fills (suc k) (a ∷ r) = fills_suc k (elements_after k r) (length r) (fills k r
 
 pub elements_taken : (h : List ℕ) (es : List Item) → elements h ≡ some es → space_of es ≡ length h
 elements_taken h es e = let f : Fills 0 (some es) (length h) = rw e at (fills 0 h) in omega arith
-
--- ---- by cases
-by_bool : (P : Bool → Type 0) (b : Bool) → (b ≡ true → P true) → (b ≡ false → P false) → P b
-by_bool P true t f = t refl
-by_bool P false t f = f refl
 
 -- ---- what a concatenation element and packet identifiers take of a header at least
 abbrev pub bit : Bool → ℕ
@@ -87,7 +78,7 @@ costs c o a =
     by_number (Costs c o) a 0x71 (λ w. omega arith) λ not71.
     rw (not00, not08, not70, not71) (λ w. omega arith)
 
-spent : (es : List Item) (c : Concatenation) → any_of wrong_length es ≡ false
+pub spent : (es : List Item) (c : Concatenation) → any_of wrong_length es ≡ false
     → cost (last_concatenation c es).width + 2 * bit (any_of (has 0x70) es) + 2 * bit (any_of (has 0x71) es) ≤ cost c.width + space_of es
 unfolding Costs
 spent [] c w = omega arith
@@ -102,14 +93,14 @@ octets_take (suc n) [] b i = omega arith
 octets_take (suc n) (x ∷ l) b zero = b 0
 octets_take (suc n) (x ∷ l) b (suc i) = octets_take n l (λ j. b (suc j)) i
 
-octets_header : (ud : List ℕ) → Octets ud → Octets (header_octets ud)
+pub octets_header : (ud : List ℕ) → Octets ud → Octets (header_octets ud)
 octets_header ud b = octets_take (udhl ud) (drop 1 ud) (λ i. rw get_or-drop (b (1 + i)))
 
-abbrev EachItem : (List ℕ → Type 0) → List Item → Type 0
+abbrev pub EachItem : (List ℕ → Type 0) → List Item → Type 0
 EachItem q [] = Unit {0}
 EachItem q (e ∷ es) = q e.octets × EachItem q es
 
-abbrev OctetsIn : Option (List Item) → Type 0
+abbrev pub OctetsIn : Option (List Item) → Type 0
 OctetsIn none = Unit {0}
 OctetsIn (some es) = EachItem Octets es
 
@@ -117,7 +108,7 @@ octets_more : (e : Item) (o : Option (List Item)) → Octets e.octets → Octets
 octets_more e none b f = tt
 octets_more e (some es) b f = (b, f)
 
-octets_in_lem : (k : ℕ) (l : List ℕ) → Octets l → OctetsIn (elements_after k l)
+pub octets_in_lem : (k : ℕ) (l : List ℕ) → Octets l → OctetsIn (elements_after k l)
 unfolding elements_after
 octets_in_lem zero [] b = tt
 octets_in_lem (suc k) [] b = tt
@@ -143,7 +134,7 @@ module _ (q : List ℕ → Type 0) (T : Concatenation → Type 0) (narrow : (o :
 abbrev pub Says : Concatenation → Type 0
 Says c = eqb c.total 0 || reference_fits c.width c.reference ≡ true
 
-items_say : (es : List Item) → EachItem Octets es → Says (concatenation_of es)
+pub items_say : (es : List Item) → EachItem Octets es → Says (concatenation_of es)
 items_say es b =
     last_holds Octets Says (λ o b. rw (lt-ltb (get_or o 0 0) 256 (b 0)) (or-true (eqb (get_or o 1 0) 0)))
     (λ o b. rw (lt-ltb (number_of (get_or o 0 0) (get_or o 1 0)) 65536 (number_fits (get_or o 0 0) (get_or o 1 0) (b 0) (b 1))) (or-true (eqb (get_or o 2 0) 0)))
@@ -153,7 +144,7 @@ items_say es b =
 abbrev pub HasWidth : Concatenation → Type 0
 HasWidth c = eqb c.total 0 || not (eqb c.width 0) ≡ true
 
-has_width : (es : List Item) → HasWidth (concatenation_of es)
+pub has_width : (es : List Item) → HasWidth (concatenation_of es)
 has_width es = last_holds (λ _. Unit {0}) HasWidth (λ o _. or-true (eqb (get_or o 1 0) 0)) (λ o _. or-true (eqb (get_or o 2 0) 0)) es no_concatenation (each es) refl
   where
     each : (es : List Item) → EachItem (λ _. Unit {0}) es
@@ -168,11 +159,11 @@ by_width P w n e eight sixteen = by_number P w 8 eight λ not8. by_number P w 16
     go p q = let f : false ≡ true = rw (p, q) at e in let z : ◌≡◌ {A = ℕ} 0 1 = cc in omega arith
 
 -- ---- what was tested where something is given
-not_refused : {A : Type 0} (n : ℕ) (b : Bool) (o : Outcome A) (x : A) → (refuse n when b otherwise o) ≡ gives x → (b ≡ false) × (o ≡ gives x)
+pub not_refused : {A : Type 0} (n : ℕ) (b : Bool) (o : Outcome A) (x : A) → (refuse n when b otherwise o) ≡ gives x → (b ≡ false) × (o ≡ gives x)
 not_refused n true o x e = let z : ◌≡◌ {A = ℕ} 0 1 = cc in absurd (omega arith)
 not_refused n false o x e = (refl, e)
 
-gives_same : {A : Type 0} {x y : A} → gives x ≡ gives y → x ≡ y
+pub gives_same : {A : Type 0} {x y : A} → gives x ≡ gives y → x ≡ y
 gives_same e = cc
 
 pub record MessageRead (k : Kind) (sender : ℕ) (ud : List ℕ) (x : Brought) : Type 0 where
@@ -193,113 +184,6 @@ message_read k sender ud x e =
         → where_read (λ es. judged k sender (after_header ud) (summary es)) o ≡ gives x → MessageRead k sender ud x
     go none r l m e = let z : ◌≡◌ {A = ℕ} 0 1 = cc in absurd (omega arith)
     go (some es) r l m e = record { es = es; size = l; inside = m; readable = r; verdict = e }
-
-record Judged (k : Kind) (sender start : ℕ) (s : Seen) (x : Brought) : Type 0 where
-  pub right : s.wrong ≡ false
-  pub placed : misplaced k s ≡ false
-  pub verdict : cond (alone s.concatenation) (gives (single start))
-      (refuse 6 when ltb most_parts s.concatenation.total otherwise
-      gives (part (message_key sender s.concatenation) s.concatenation.total s.concatenation.number start)) ≡ gives x
-
-judged_given : (k : Kind) (sender start : ℕ) (s : Seen) (x : Brought) → judged k sender start s ≡ gives x → Judged k sender start s x
-unfolding judged
-judged_given k sender start s x e =
-    let (right, e₁) = not_refused 4 s.wrong _ x e in
-    let (placed, e₂) = not_refused 5 (misplaced k s) _ x e₁ in
-    record { right = right; placed = placed; verdict = e₂ }
-
--- a single message or part 1 bears a packet identifier
-opening_bears : (k : Kind) (s : Seen) → misplaced k s ≡ false → opens s.concatenation ≡ true → 1 ≤ bit s.command + bit s.response
-opening_bears k s m o = go k (same (opens s.concatenation) (own k s) (neither (foreign k s) (differ (opens s.concatenation) (own k s)) m).1)
-  where
-    same : (a b : Bool) → differ a b ≡ false → a ≡ b
-    same true true e = refl
-    same false b e = sym e
-    same true false e = let z : ◌≡◌ {A = ℕ} 0 1 = cc in absurd (omega arith)
-
-    go : (k : Kind) → opens s.concatenation ≡ own k s → 1 ≤ bit s.command + bit s.response
-    go Command e = let t : s.command ≡ true = sym e ∙ o in rw t (omega arith)
-    go Response e = let t : s.response ≡ true = sym e ∙ o in rw t (omega arith)
-
--- ---- a message that is given
--- a message that does not stand alone is one of two parts at least
-pub not_alone : (c : Concatenation) → alone c ≡ false → (2 ≤ c.total) × (1 ≤ c.number) × (c.number ≤ c.total)
-not_alone c several =
-    let (ignored, one) = neither (eqb c.total 0 || eqb c.number 0 || ltb c.total c.number) (eqb c.total 1) several in
-    let (zeros, above) = neither (eqb c.total 0 || eqb c.number 0) (ltb c.total c.number) ignored in
-    let (no-total, no_number) = neither (eqb c.total 0) (eqb c.number 0) zeros in
-    (omega (arith, eqb-false c.total 0 no-total, eqb-false c.total 1 one), omega (arith, eqb-false c.number 0 no_number), ltb-false c.total c.number above)
-
-pub some_total : (n : ℕ) (b : Bool) → 2 ≤ n → eqb n 0 || b ≡ true → b ≡ true
-some_total n b l s = let z : (n ≡ 0 → ⊥) = λ e. omega arith in rw (ne_eqb n 0 z) at s
-
--- UDHL, a concatenation element, in part 1 a packet identifier and the room of a part are the whole user data
-pub room_fills : (w number n : ℕ) → reference_fits w n ≡ true → 1 + cost w + 2 * bit (eqb number 1) + room w number ≡ most_user_data
-room_fills w number n e =
-    let P : ℕ → ℕ → Type 0 = λ w number. 1 + cost w + 2 * bit (eqb number 1) + room w number ≡ most_user_data in
-    by_width (λ w. P w number) w n e (by_number (P 8) number 1 refl λ later. rw later) (by_number (P 16) number 1 refl λ later. rw later)
-
--- what is left for a message's own octets, behind a concatenation element and, where one is borne, a packet identifier
-module _ (k : Kind) (sender : ℕ) (ud : List ℕ) (x : Brought) (r : MessageRead k sender ud x) where
-  abbrev seen : Seen
-  seen = summary r.es
-
-  verdict : Judged k sender (after_header ud) seen x
-  verdict = judged_given k sender (after_header ud) seen x r.verdict
-
-  header_taken : space_of r.es ≡ udhl ud
-  header_taken = elements_taken (header_octets ud) r.es r.readable ∙ length-take-le (udhl ud) (drop 1 ud) (simp length-drop (omega (arith, r.inside)))
-
-  left : length (drop (after_header ud) ud) + cost seen.concatenation.width + 2 * bit seen.command + 2 * bit seen.response ≤ 139
-  unfolding summary
-  left = omega (arith, spent r.es no_concatenation verdict.right, header_taken, length-drop (after_header ud) ud)
-
-  seen_says : Octets ud → Says seen.concatenation
-  unfolding summary
-  seen_says b =
-      let f : OctetsIn (some r.es) = rw r.readable at (octets_in_lem 0 (header_octets ud) (octets_header ud b)) in
-      items_say r.es f
-
-  seen_width : HasWidth seen.concatenation
-  unfolding summary
-  seen_width = has_width r.es
-
-  -- what is known of the concatenation of a part
-  pub record Several (c : Concatenation) : Type 0 where
-    pub several : alone c ≡ false
-    pub most : c.total ≤ most_parts
-    pub fits : Octets ud → Says c
-    pub width : HasWidth c
-    pub room : length (drop (after_header ud) ud) + cost c.width + 2 * bit (eqb c.number 1) ≤ 139
-
-  opening : opens seen.concatenation ≡ true → 1 ≤ bit seen.command + bit seen.response
-  opening = opening_bears k seen verdict.placed
-
-  first_bears : alone seen.concatenation ≡ false → bit (eqb seen.concatenation.number 1) ≤ bit seen.command + bit seen.response
-  first_bears q =
-      by_bool (λ b. bit b ≤ bit seen.command + bit seen.response) (eqb seen.concatenation.number 1)
-      (λ e. opening (rw (q, e))) (λ _. omega arith)
-
-  -- what holds of a single message with room for the identifier's element, and of such a part, holds of what is given
-  pub given_as : (P : Brought → Type 0) → (length (drop (after_header ud) ud) ≤ 137 → P (single (after_header ud)))
-      → ((c : Concatenation) → Several c → P (part (message_key sender c) c.total c.number (after_header ud))) → P x
-  given_as P sole several = go (alone seen.concatenation) refl verdict.verdict
-    where
-      go : (b : Bool) → alone seen.concatenation ≡ b
-          → cond b (gives (single (after_header ud)))
-          (refuse 6 when ltb most_parts seen.concatenation.total otherwise
-          gives (part (message_key sender seen.concatenation) seen.concatenation.total seen.concatenation.number (after_header ud))) ≡ gives x
-          → P x
-      go true q e = subst P (gives_same e) (sole (omega (arith, left, opening (rw q))))
-      go false q e =
-          let (m, f) = not_refused 6 (ltb most_parts seen.concatenation.total) _ x e in
-          subst P (gives_same f) (several seen.concatenation (record {
-            several = q;
-            most = ltb-false most_parts seen.concatenation.total m;
-            fits = seen_says;
-            width = seen_width;
-            room = omega (arith, left, first_bears q);
-          }))
 
 -- ---- a page that is given
 pub parameter_bounds : (p : ℕ) → (1 ≤ page_number p) × (1 ≤ page_total p) × (page_total p ≤ 15)

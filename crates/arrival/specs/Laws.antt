@@ -1,25 +1,22 @@
--- Laws of reading, for readers and the crates above: how a header's elements unfold, that they fill it, and the bounds of what is given.
--- What they are shown from stands in `Bounds.antt`.
-use Rattle.std.specs.Prelude.{ℕ, ◌+◌, ◌*◌, ◌≤◌, ◌≡◌, List, not, length, drop}
+-- Laws of reading, for readers and the crates above: how a header's elements unfold, that they fill it, and the bounds of what a page gives.
+-- What they are shown from stands in `Bounds.antt`. The bounds of what a message gives stand in proofs/MessageLaws.antt.
+use Rattle.std.specs.Prelude.{ℕ, ◌≤◌, ◌≡◌, List, length, drop}
 use Rattle.std.proofs.Math.Path.{refl}
-use Rattle.std.proofs.Math.Bool.{true, false}
+use Rattle.std.proofs.Math.Bool.{true}
 use Rattle.std.proofs.Math.Option.{Option, none, some}
 use Rattle.std.proofs.Common.{arith, length-drop}
-use Rattle.std.proofs.Math.Dec.{eqb}
-use borrow.Author.Tests.{le-leb, eq-eqb, not-true}
-use Rattle.octets.specs.Octets.{Octets}
+use borrow.Author.Tests.{le-leb, eq-eqb}
 use Rattle.types.specs.declared.Kind.{Kind}
 use Rattle.types.specs.Refusals.{gives}
 use Rattle.types.specs.declared.Key.{Key}
-use Rattle.header.specs.declared.Concatenation.{Concatenation}
 use Rattle.header.specs.declared.Seen.{Seen}
 use Rattle.arrival.specs.Arrivals.{Brought, single, part}
-use Rattle.arrival.specs.Message.{alone, after_header, most_parts, message_key, where_read, read_message}
+use Rattle.arrival.specs.Message.{where_read}
 use Rattle.arrival.specs.Page.{page_octets, page_header, page_content, parameter_in, page_total, page_number, serial_in, identifier_in, page_key, read_page}
-use Rattle.arrival.specs.Keys.{of_pages, reference_fits, key_formed, total_fits, room, length_fits}
+use Rattle.arrival.specs.Keys.{of_pages, key_formed, total_fits, length_fits}
 use Rattle.header.specs.Header.{Item, elements}
 use Rattle.header.specs.Reading.{seen_after, collected, walked, told_walked}
-use Rattle.arrival.specs.Bounds.{space_of, elements_taken, Says, HasWidth, bit, cost, by_width, MessageRead, message_read, not_alone, some_total, room_fills, given_as, parameter_bounds, PageRead, page_given_as}
+use Rattle.arrival.specs.Bounds.{space_of, elements_taken, parameter_bounds, PageRead, page_given_as}
 
 -- ---- the elements of a header
 -- They fill it exactly: `taken` counts two octets and its own for each.
@@ -43,64 +40,6 @@ pub record Admitted (k : Kind) (key : Key) (total number : ℕ) (octets : List �
   pub low : 1 ≤ number
   pub high : number ≤ total
   pub length_fits : length_fits key number (length octets) ≡ true
-
-module _ (k : Kind) (sender : ℕ) (c : Concatenation) (o : List ℕ) where
-  admitted_message : Says c → alone c ≡ false → c.total ≤ most_parts → length o + cost c.width + 2 * bit (eqb c.number 1) ≤ 139
-      → Admitted k (message_key sender c) c.total c.number o
-  unfolding key_formed length_fits
-  admitted_message s several most room-left =
-      let (l, m, h) = not_alone c several in
-      let fits : reference_fits c.width c.reference ≡ true = some_total c.total (reference_fits c.width c.reference) l s in
-      let no_page : eqb c.width 0 ≡ false = by_width (λ w. eqb w 0 ≡ false) c.width c.reference fits refl refl in
-      record {
-        key_formed = rw (no_page, fits);
-        total_fits = rw (no_page, le-leb _ _ l, le-leb _ _ most);
-        low = m;
-        high = h;
-        length_fits = rw no_page (le-leb (length o) (room c.width c.number) (omega (arith, room_fills c.width c.number c.reference fits)));
-      }
-
--- a part's key is no page's
-width_told : (c : Concatenation) → alone c ≡ false → HasWidth c → eqb c.width 0 ≡ false
-width_told c several w =
-    let (l, m, h) = not_alone c several in
-    not-true (eqb c.width 0) (some_total c.total (not (eqb c.width 0)) l w)
-
--- what a message brings, case by case
-abbrev FromMessage : Kind → ℕ → List ℕ → Brought → Type 0
-FromMessage k sender ud (single start) = (start ≤ length ud) × (length (drop start ud) ≤ 137)
-FromMessage k sender ud (part key total number start) =
-    (start ≤ length ud) × (key.sender ≡ sender) × (of_pages key ≡ false) × (Octets ud → Admitted k key total number (drop start ud))
-
-from_message : (k : Kind) (sender : ℕ) (ud : List ℕ) (x : Brought) → read_message k sender ud ≡ gives x → FromMessage k sender ud x
-from_message k sender ud x given =
-    let r : MessageRead k sender ud x = message_read k sender ud x given in
-    given_as k sender ud x r (FromMessage k sender ud) (λ room. (omega arith, room))
-    λ c s. (omega arith, refl, width_told c s.several s.width, λ b. admitted_message k sender c (drop (after_header ud) ud) (s.fits b) s.several s.most s.room)
-
-module _ (k : Kind) (sender : ℕ) (ud : List ℕ) where
-  -- a part of a message
-  module _ (key : Key) (total number start : ℕ) (given : read_message k sender ud ≡ gives (part key total number start)) where
-    -- where ud holds octets
-    pub message_part : Octets ud → Admitted k key total number (drop start ud)
-    message_part = (from_message k sender ud (part key total number start) given).3
-
-    pub message_start : start ≤ length ud
-    message_start = (from_message k sender ud (part key total number start) given).0
-
-    pub message_sender : key.sender ≡ sender
-    message_sender = (from_message k sender ud (part key total number start) given).1
-
-    pub message_key_lem : of_pages key ≡ false
-    message_key_lem = (from_message k sender ud (part key total number start) given).2
-
-  -- a single message bears the packet identifier
-  module _ (start : ℕ) (given : read_message k sender ud ≡ gives (single start)) where
-    pub message_single : length (drop start ud) ≤ 137
-    message_single = (from_message k sender ud (single start) given).1
-
-    pub single_start : start ≤ length ud
-    single_start = (from_message k sender ud (single start) given).0
 
 -- what a page brings, case by case
 abbrev FromPage : Kind → List ℕ → Brought → Type 0

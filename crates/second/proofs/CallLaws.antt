@@ -19,7 +19,8 @@ use Rattle.packet.specs.Packets.{most_octets}
 use Rattle.arrival.specs.Arrivals.{Brought, told_arrival}
 use Rattle.arrival.specs.Message.{read_message}
 use Rattle.arrival.specs.Page.{read_page}
-use Rattle.arrival.specs.Laws.{message_part, message_single, page_part, page_single}
+use Rattle.arrival.specs.Laws.{page_part, page_single}
+use Rattle.arrival.proofs.MessageLaws.{message_part, message_single}
 use Rattle.series.specs.Taking.{Answer, refused_by}
 use Rattle.series.specs.Deciding.{Fitting}
 use Rattle.types.specs.declared.Log.{Log}

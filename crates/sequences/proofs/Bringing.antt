@@ -23,7 +23,8 @@ use Rattle.arrival.specs.Message.{most_parts, message_key, read_message}
 use Rattle.arrival.specs.Page.{page_header, page_content, identifier_in_range, page_key}
 use Rattle.arrival.specs.Keys.{of_pages, reference_fits, key_formed, total_fits, room, length_fits, message_key_formed, page_key_formed}
 use Rattle.arrival.specs.Bounds.{by_width}
-use Rattle.arrival.specs.Forms.{headed, borne, part_header, narrow_element, wide_element, narrow_read, wide_read}
+use Rattle.arrival.specs.Forms.{headed, borne, part_header, narrow_element, wide_element}
+use Rattle.arrival.proofs.FormLaws.{narrow_read, wide_read}
 use Rattle.split.specs.Splitting.{parameter}
 use Rattle.split.specs.ReadBack.{page_read}
 use Rattle.series.specs.PartLaws.{total_bounds}

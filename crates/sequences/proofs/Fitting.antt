@@ -16,7 +16,8 @@ use Rattle.types.specs.declared.Key.{Key}
 use Rattle.types.specs.declared.Slot.{Slot}
 use Rattle.types.specs.declared.Record.{Record}
 use Rattle.arrival.specs.Arrivals.{Brought, single, part}
-use Rattle.arrival.specs.Bounds.{message_read, given_as, page_given_as}
+use Rattle.arrival.specs.Bounds.{message_read, page_given_as}
+use Rattle.arrival.proofs.MessageLaws.{given_as}
 use Rattle.joined.specs.Fronts.{packet_in}
 use Rattle.arrival.specs.Keys.{of_pages}
 use Rattle.slots.specs.Slots.{most_slots, no_key, slot_at, opened, with_part, to_front, freed, with_slots, fresh_record}

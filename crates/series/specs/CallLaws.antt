@@ -5,7 +5,8 @@ use Rattle.types.specs.Refusals as reading
 use Rattle.types.specs.declared.Kind.{Kind}
 use Rattle.types.specs.declared.Key.{Key}
 use Rattle.arrival.specs.Arrivals.{part}
-use Rattle.arrival.specs.Laws.{Admitted, message_part, page_part}
+use Rattle.arrival.specs.Laws.{Admitted, page_part}
+use Rattle.arrival.proofs.MessageLaws.{message_part}
 use Rattle.series.specs.Taking.{State, unfit, refuse, taken, take_message, take_page}
 use Rattle.series.specs.Calls.{Input, message, page, octets_of, read, take_input}
 

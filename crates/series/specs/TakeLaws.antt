@@ -16,7 +16,8 @@ use Rattle.arrival.specs.Arrivals.{told_arrival}
 use Rattle.arrival.specs.Message.{most_parts, read_message}
 use Rattle.arrival.specs.Page.{page_content, read_page}
 use Rattle.arrival.specs.Keys.{of_pages, length_fits}
-use Rattle.arrival.specs.Laws.{Admitted, message_part, message_single, page_part, page_single}
+use Rattle.arrival.specs.Laws.{Admitted, page_part, page_single}
+use Rattle.arrival.proofs.MessageLaws.{message_part, message_single}
 use Rattle.types.specs.declared.Slot.{Slot}
 use Rattle.types.specs.declared.Record.{Record}
 use Rattle.slots.specs.declared.find.Seat.{Seat}
