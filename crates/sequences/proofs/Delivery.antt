@@ -29,7 +29,8 @@ use Rattle.series.specs.CaseLaws.{Lacks}
 use Rattle.series.specs.Taking.{State, After, state, packet, after, hand_out, taken}
 use Rattle.series.specs.Calls.{Input, message, page, octets_of, read}
 use Rattle.split.specs.Splitting as split
-use Rattle.split.specs.Laws.{some_part, page_ends, message_given, page_given}
+use Rattle.split.specs.Laws.{page_ends, message_given, page_given}
+use Rattle.split.proofs.PartLaws.{some_part}
 use Rattle.sequences.specs.Lists.{elem, add, complete}
 use Rattle.sequences.specs.Runs.{Slots, Call, Event, takes, Store, fresh, outcome, run, Proper, Each}
 use Rattle.sequences.specs.Wake.{Cut, History, begin, history_after, history_by, follow, EachWith}

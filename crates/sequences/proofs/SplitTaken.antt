@@ -21,8 +21,10 @@ use Rattle.arrival.specs.Page.{page_content, page_header, page_key, identifier_i
 use Rattle.arrival.specs.Keys.{of_pages, reference_fits}
 use Rattle.series.specs.Calls.{Input, message, page, read, octets_of}
 use Rattle.split.specs.Splitting as split
-use Rattle.split.specs.Laws.{single_size, part_whole, parts_join, pages_join, page_begins, page_ends}
-use Rattle.split.specs.ReadBack.{own_from, read_single, single_octets, read_part, own_octets, read_single_page, read_page_lem, content_octets}
+use Rattle.split.specs.Laws.{part_whole, pages_join, page_begins, page_ends}
+use Rattle.split.proofs.PartLaws.{single_size, parts_join}
+use Rattle.split.specs.ReadBack.{own_from, own_octets, read_single_page, read_page_lem, content_octets}
+use Rattle.split.proofs.PartsReadBack.{read_single, single_octets, read_part}
 use Rattle.sequences.specs.Lists.{concat, complete}
 use Rattle.sequences.specs.Runs.{Slots, Call, Event}
 use Rattle.sequences.specs.Timely.{InTime}

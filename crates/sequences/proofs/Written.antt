@@ -16,7 +16,8 @@ use Rattle.arrival.specs.Message.{most_user_data}
 use Rattle.arrival.specs.Page.{page_content, identifier_in_range}
 use Rattle.arrival.specs.Keys.{room, reference_fits}
 use Rattle.split.specs.Splitting.{most_single, parts, part_from, part_octets, identifier_element, concatenation_element, elements_of, user_data, most_split, most_pages, pages, content_of, parameter, page_written}
-use Rattle.split.specs.Laws.{most_parts_lem, user_data_fits, most_pages_lem}
+use Rattle.split.specs.Laws.{most_pages_lem}
+use Rattle.split.proofs.PartLaws.{most_parts_lem, user_data_fits}
 
 -- ---- octets put together
 pub data Small : List ℕ → Type 0 where

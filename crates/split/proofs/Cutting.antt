@@ -15,7 +15,8 @@ use Rattle.octets.specs.Laws.{put_fits, length_placed, placed_start, placed_next
 use Rattle.types.specs.declared.Kind.{Kind}
 use Rattle.arrival.specs.Keys.{room}
 use Rattle.split.specs.Splitting.{part_from, part_octets, header_of, user_data}
-use Rattle.split.specs.Laws.{part_whole, part_cut, part_begins, user_data_fits}
+use Rattle.split.specs.Laws.{part_whole, part_cut}
+use Rattle.split.proofs.PartLaws.{part_begins, user_data_fits}
 use Rattle.split.specs.Within.{HeaderPut, Writable, Standing}
 
 -- ---- where a part begins

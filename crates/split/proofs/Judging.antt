@@ -20,7 +20,8 @@ use Rattle.arrival.specs.Keys.{reference_fits}
 use Rattle.split.specs.declared.Due.{Due}
 use Rattle.split.specs.declared.Due.TheVariants as due
 use Rattle.split.specs.Splitting.{Piece, written, writes_part, parts, most_split, no_such_part, user_data, writing, write_message, pages, page_written, most_pages, writing_page, write_page}
-use Rattle.split.specs.Laws.{most_parts_lem, most_pages_lem}
+use Rattle.split.specs.Laws.{most_pages_lem}
+use Rattle.split.proofs.PartLaws.{most_parts_lem}
 use Rattle.split.specs.Within.{Writable, PageReady, Standing, told_due, judging, judging_page}
 
 -- ---- the refusals of writing user data

@@ -4,3 +4,5 @@ pub mod Headers
 pub mod Cutting
 pub mod Paging
 pub mod Steps
+pub mod PartLaws
+pub mod PartsReadBack

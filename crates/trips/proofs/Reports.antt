@@ -23,7 +23,7 @@ use Rattle.packet.proofs.PacketLaws.{formed_facts, built_formed, built_parsed}
 use Rattle.series.specs.Calls.{message}
 use Rattle.split.specs.Splitting as split
 use Rattle.split.specs.Laws.{one_part, part_whole}
-use Rattle.split.specs.ReadBack.{read_single}
+use Rattle.split.proofs.PartsReadBack.{read_single}
 use Rattle.report.specs.Reporting.{Going, nothing_goes, in_report, announced, submitted, asked, reserved, by_submit, least_report, most_report, no_capacity, report_of, status_of, before_status, announcing, going_out, known_edition, announced_by, reporting, reported, writes_report, write_report, announces_another, response_announces}
 use Rattle.report.specs.Laws.{Asked, Unasked, Way, not_asked, for_submit, small, too_large, way_of, reporting_gives, announcing_octets, announcing_length}
 use Rattle.trips.specs.Reports.{ReportRefusals, ReadAlone, Follows, with_status, ReachesServer, none_asked, carried, announces, parts_alone, NoneLostIn, NoneLost, old, present, NoneLostEither, Alike, equal, but_one, EditionsAlike, EitherAccepted}

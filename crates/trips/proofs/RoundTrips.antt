@@ -18,8 +18,10 @@ use Rattle.packet.specs.Told.{command_fields, response_fields}
 use Rattle.packet.specs.Laws.{readable_formed, built_cipher}
 use Rattle.packet.proofs.PacketLaws.{built_formed, built_checksum, built_parsed, built_data, built_check, built_opaque, read_built}
 use Rattle.packet.specs.Judging.{readable_gives}
-use Rattle.split.specs.Laws.{parts_join, pages_join}
-use Rattle.split.specs.ReadBack.{read_single, single_octets, read_part, own_octets, read_single_page, read_page_lem, content_octets}
+use Rattle.split.specs.Laws.{pages_join}
+use Rattle.split.proofs.PartLaws.{parts_join}
+use Rattle.split.specs.ReadBack.{own_octets, read_single_page, read_page_lem, content_octets}
+use Rattle.split.proofs.PartsReadBack.{read_single, single_octets, read_part}
 use Rattle.trips.specs.RoundTrips.{BuildThenRead, CommandTells, Said, ReadThenBuild, fields_from, AnswersBuild, ReadThenBuildCalls, FixedLengths, ChecksumCovers, ParsesOrRefuses, ParsedIsFormed, BuildsOrRefuses, SplitMessages, SplitPages}
 
 pub build_then_read : BuildThenRead
