@@ -16,7 +16,8 @@ use Rattle.types.specs.Refusals.{gives, writes}
 use Rattle.packet.specs.Packets.{Fields, plain, ciphered, Parsed, measured, shown, secured_of, check_of, opaque_of}
 use Rattle.packet.specs.Told.{command_fields}
 use Rattle.ussd.specs.Ussd.{length_octets, length_formed, from_cpl, from_chl, um_cpl, um_formed, um_fields, addressed, readable_ussd, read_ussd, shown_ussd_data, shown_ussd_check, shown_ussd_opaque, coded_from, um_from, um_of, writing_ussd, written_ussd, is_um, ussd_checksum_octets}
-use Rattle.ussd.specs.Laws.{Coded, one, two, coded, coded_decodes, decoded_codes, um_facts, string_reads, string_gives, written_readable, written_reads, read_writes, written_checksum}
+use Rattle.ussd.specs.Laws.{Coded, one, two, coded, coded_decodes, decoded_codes, um_facts, string_reads, string_gives, written_readable, written_reads, read_writes}
+use Rattle.ussd.proofs.ChecksumLaws.{written_checksum}
 use Rattle.sequences.proofs.Written.{Small, done, and, small_octets}
 use Rattle.trips.specs.RoundTrips.{fields_from}
 use Rattle.trips.specs.Ussd.{LengthCoding, Addressing, ReadsOrRefuses, WritesOrRefuses, SumsOrRefuses, WriteThenRead, ReadThenWrite, ReadThenWriteCalls, UmLength, ussd_examples, EveryUssd, UssdMessages}

@@ -1,16 +1,16 @@
--- Laws of USSD strings: lengths that are coded and decoded, what is behind the lengths, and the two round trips.
+-- Laws of USSD strings: lengths that are coded and decoded, what is behind the lengths, and the two round trips. The octets of a checksum, of
+-- a string that is written, stand in proofs/ChecksumLaws.antt.
 use Rattle.std.specs.Prelude.{ℕ, ◌+◌, ◌-◌, ◌≤◌, ◌<◌, ◌≡◌, refl, Bool, true, false, cond, not, ◌&&◌, ◌||◌, List, [], ◌∷◌, ◌++◌, length, get_or, take, drop, eqb, ltb, leb}
-use Rattle.std.proofs.Common.{sym, ap, ◌∙◌, append_assoc, arith, length-append, length-drop, drop-drop, get_or-drop, take-add, eqb-true, eq-eqb, leb-true, leb-false, le-leb, ltb-false, le-ltb}
-use Rattle.std.proofs.Math.Seq.{take-append_seam, drop-append_seam, drop-append-add}
+use Rattle.std.proofs.Common.{sym, ap, ◌∙◌, arith, length-append, length-drop, drop-drop, get_or-drop, eqb-true, eq-eqb, leb-true, leb-false, le-leb, ltb-false, le-ltb}
 use Rattle.std.proofs.lemmas.Bool.{lt-leb}
 use Rattle.octets.specs.Octets.{Octets, same_octets}
 use Rattle.octets.specs.Laws.{same_self, same_true}
-use Rattle.octets.specs.Tests.{both, both_hold, clash}
+use Rattle.octets.specs.Tests.{both, clash}
 use Rattle.types.specs.declared.Kind.TheVariants.{Command}
 use Rattle.types.specs.Refusals.{Outcome, gives, refuse◌when◌otherwise◌}
-use Rattle.packet.specs.Packets.{least, within, Fields, plain, fields_behind, cipher_bit, ciphered_behind, against_check, header_length, behind, is_ciphered, misfit, runs_from}
+use Rattle.packet.specs.Packets.{least, within, Fields, fields_behind, cipher_bit, ciphered_behind, against_check, header_length, behind, is_ciphered, misfit}
 use Rattle.packet.specs.Laws.{FieldsWithin, within_told, RightLength, Fitted, fitting_gives, header_right, behind_fields, differ_none, fitting_again, same_header, same_behind}
-use Rattle.ussd.specs.Ussd.{length_octets, length_size, length_value, length_formed, from_cpl, from_chl, um_behind, um_cpl, um_chl, um_start, um_formed, ciphered_um, um_fields, addressed, readable_ussd, coded_from, um_from, um_of, writing_ussd, is_um, ussd_checksum_octets}
+use Rattle.ussd.specs.Ussd.{length_octets, length_size, length_value, length_formed, from_cpl, from_chl, um_behind, um_cpl, um_chl, um_start, um_formed, ciphered_um, um_fields, addressed, readable_ussd, coded_from, um_from, um_of, writing_ussd}
 
 -- ---- lengths
 -- a length is coded in one octet up to 127, and else in two
@@ -179,11 +179,11 @@ written_is pfi x s e =
     let (f, (n, i)) = fitting_gives Command x (ltb 159 (length (um_of x))) (pfi ∷ um_of x) s e in
     record { fitted = f; short = ltb-false 159 (length (um_of x)) n; is = sym i }
 
-um_reads : (x : Fields) → RightLength Command x → misfit Command x ≡ false → ReadsAs (um_of x) (header_length Command x) (behind x)
+pub um_reads : (x : Fields) → RightLength Command x → misfit Command x ≡ false → ReadsAs (um_of x) (header_length Command x) (behind x)
 unfolding um_of
 um_reads x r m = let h = header_right Command x r m in made_reads (header_length Command x) (behind x) h.0 h.1
 
-um_fields_lem : (x : Fields) → RightLength Command x → Fitted Command x → um_fields (um_of x) ≡ x
+pub um_fields_lem : (x : Fields) → RightLength Command x → Fitted Command x → um_fields (um_of x) ≡ x
 um_fields_lem x r f =
     let a = um_reads x r f.fits in
     let c : ciphered_um (um_of x) ≡ is_ciphered x =
@@ -197,7 +197,7 @@ written_addressed pfi x = same_self (pfi ∷ 3 ∷ [])
 
 -- and it is read as the fields
 module _ (pfi : ℕ) (x : Fields) (s : List ℕ) (e : writing_ussd pfi x ≡ gives s) (r : RightLength Command x) where
-  its_um : drop 1 s ≡ um_of x
+  pub its_um : drop 1 s ≡ um_of x
   its_um = ap (drop 1) (written_is pfi x s e).is
 
   its_fields : um_fields (drop 1 s) ≡ x
@@ -260,39 +260,3 @@ read_writes pfi dcs s r b =
     fitting_again Command (ciphered_um um) (um_chl um) (um_behind um) (um_inside um r.formed) (gives (pfi ∷ um_of (um_fields um))) (omega arith) r.checked (λ k. refl)
     (ltb 159 (length (um_of (um_fields um)))) l
     ∙ ap gives (ap (λ (o : List ℕ). pfi ∷ o) q ∙ sym p)
-
--- ---- the octets of a checksum
-cut : (lead f c d : List ℕ) (n m : ℕ) → n ≡ length lead → m ≡ length f → take (n + m) (lead ++ (f ++ (c ++ d))) ++ drop (n + (m + length c)) (lead ++ (f ++ (c ++ d))) ≡ lead ++ (f ++ d)
-cut lead f c d n m e g =
-    rw (e, g, take-add (length lead) (length f) (lead ++ (f ++ (c ++ d))), take-append_seam lead (f ++ (c ++ d)), drop-append_seam lead (f ++ (c ++ d)), take-append_seam f (c ++ d), drop-append-add lead (f ++ (c ++ d)) (length f + length c), drop-append-add f (c ++ d) (length c), drop-append_seam c d, append_assoc)
-
-runs_cut : (um lead f c d : List ℕ) (start h : ℕ) → um ≡ lead ++ (f ++ (c ++ d)) → start ≡ length lead → length f ≡ 13 → h ≡ 13 + length c
-    → runs_from start Command h um ≡ lead ++ (f ++ d)
-runs_cut um lead f c d start h e s r g = rw (e, g) (cut lead f c d start 13 s (sym r))
-
-sum_given : (um : List ℕ) → is_um um ≡ true → against_check Command (um_fields um) ≡ false → ciphered_um um ≡ false
-    → ussd_checksum_octets um ≡ gives (runs_from (um_start um) Command (um_chl um) um)
-unfolding ussd_checksum_octets
-sum_given um i a c = rw (i, a, c)
-
--- of a string written of plain fields: identifier, CPL, CHL, the fields before the check field, the data
-pub written_checksum : (pfi : ℕ) (f c d s : List ℕ) → length f ≡ 13 → writing_ussd pfi (plain f c d) ≡ gives s
-    → ussd_checksum_octets (drop 1 s)
-    ≡ gives (0x03 ∷ (length_octets (length (coded_from (13 + length c) (f ++ (c ++ d)))) ++ (length_octets (13 + length c) ++ (f ++ d))))
-unfolding um_of
-written_checksum pfi f c d s r e =
-    let x = plain f c d in
-    let w = written_is pfi x s e in
-    let a = um_reads x r w.fitted.fits in
-    let h = 13 + length c in
-    let q = f ++ (c ++ d) in
-    let n = length (coded_from h q) in
-    let lead : List ℕ = 3 ∷ (length_octets n ++ length_octets h) in
-    let few : leb (length (um_of x)) 159 ≡ true = le-leb (length (um_of x)) 159 w.short in
-    let i : is_um (um_of x) ≡ true = both_hold (leb (length (um_of x)) 159) (um_formed (um_of x)) few a.formed in
-    let u : against_check Command (um_fields (um_of x)) ≡ false = ap (against_check Command) (um_fields_lem x r w.fitted) ∙ w.fitted.checked in
-    let v : ciphered_um (um_of x) ≡ false = ap ciphered_behind a.behind_is ∙ differ_none (cipher_bit (get_or (behind x) 0 0)) false w.fitted.agrees in
-    let o : um_of x ≡ lead ++ q = ap (λ (y : List ℕ). 3 ∷ y) (sym (append_assoc (length_octets n) (length_octets h) q)) in
-    let l : um_start (um_of x) ≡ length lead = a.start ∙ omega (arith, length-append (length_octets n) (length_octets h)) in
-    ap ussd_checksum_octets (its_um pfi x s e r) ∙ sum_given (um_of x) i u v
-    ∙ ap gives (runs_cut (um_of x) lead f c d (um_start (um_of x)) (um_chl (um_of x)) o l r a.chl ∙ ap (λ (y : List ℕ). 3 ∷ y) (append_assoc (length_octets n) (length_octets h) (f ++ d)))
