@@ -16,7 +16,8 @@ use Rattle.octets.specs.Tests.{clash, same?}
 use Rattle.types.specs.declared.Kind.{Kind}
 use Rattle.types.specs.declared.Slot.{Slot}
 use Rattle.slots.specs.FrontLaws.{same_key_lem}
-use Rattle.slots.specs.RankLaws.{ranks_differ, Aged, free, moves, yields, stays, aged?}
+use Rattle.slots.specs.RankLaws.{ranks_differ, Aged, free, moves, yields, stays}
+use Rattle.slots.proofs.AgedLaws.{aged?}
 use Rattle.slots.specs.Slots.{slot_at, held_at, aged}
 use Rattle.formed.specs.Formed.{most_beats}
 use Rattle.formed.specs.Laws.{Formed}

@@ -13,7 +13,8 @@ use Rattle.slots.specs.BelowLaws.{all_at, all_hold, count_zero}
 use Rattle.slots.specs.Slots.{most_slots, is_slot_number, slot_at, free_slot, used, is_free, same_key, at_rank, at_front, aged, closed, to_front, freed, fresh_record}
 use Rattle.formed.specs.Formed as rule
 use Rattle.formed.specs.Formed.{most_beats, part_formed, held_count, used_formed, all_zero, slot_formed, keys_differ, ranked, count_ahead, in_step, counts_follow, slots_formed}
-use Rattle.slots.specs.RankLaws.{Ranked, pos_taken, aged_taken, aged_mono, closed_taken, closed_mono, front_ranked, free_ranked}
+use Rattle.slots.specs.RankLaws.{Ranked, pos_taken, closed_taken, closed_mono, free_ranked}
+use Rattle.slots.proofs.AgedLaws.{aged_taken, aged_mono, front_ranked}
 use Rattle.slots.specs.FrontLaws.{front_here, front_there, front_length, freed_here, freed_there, freed_length, same_key_lem, key_same}
 
 used_pos : (x : Slot) → 0 < x.rank → used x ≡ true

@@ -13,7 +13,8 @@ use Rattle.types.specs.declared.Key.{Key}
 use Rattle.types.specs.declared.Slot.{Slot}
 use Rattle.arrival.specs.Message.{most_parts}
 use Rattle.slots.specs.BelowLaws.{count_zero}
-use Rattle.slots.specs.RankLaws.{pos_taken, aged_taken, closed_taken}
+use Rattle.slots.specs.RankLaws.{pos_taken, closed_taken}
+use Rattle.slots.proofs.AgedLaws.{aged_taken}
 use Rattle.slots.specs.FrontLaws.{front_here, front_there, freed_here, freed_there, key_same}
 use Rattle.slots.specs.Slots as slots
 use Rattle.slots.specs.Slots.{slot_at, opened, held_at, length_at, with_part, to_front, freed, aged, closed}

@@ -14,7 +14,8 @@ use Rattle.types.specs.declared.Kind.{Kind}
 use Rattle.types.specs.declared.Slot.{Slot}
 use Rattle.arrival.specs.Message.{most_parts}
 use Rattle.slots.specs.Slots.{most_slots, slot_at, free_slot, opened, at_rank, at_front, held_at, with_part, aged, closed, aged_slot, closed_slot, to_front, freed}
-use Rattle.slots.specs.RankLaws.{Aged, free, moves, yields, stays, aged?, closed_near, closed_far, closed_taken, ranks_differ}
+use Rattle.slots.specs.RankLaws.{Aged, free, moves, yields, stays, closed_near, closed_far, closed_taken, ranks_differ}
+use Rattle.slots.proofs.AgedLaws.{aged?}
 use Rattle.slots.specs.FrontLaws.{past, front_here, front_there, front_length, freed_here, freed_there}
 use Rattle.formed.specs.Formed.{mark_at, size_at, held_count, slot_formed}
 use Rattle.formed.specs.Laws.{Formed, UsedSlot, slot_tells, slot_front, front_formed, free_formed}

@@ -20,7 +20,8 @@ use Rattle.arrival.specs.Keys.{of_pages}
 use Rattle.joined.specs.Fronts.{packet_in}
 use Rattle.types.specs.declared.Slot.{Slot}
 use Rattle.slots.specs.Slots.{slot_at, bears, opened, at_rank, with_part, with_slots, aged, closed, to_front, freed}
-use Rattle.slots.specs.RankLaws.{aged_taken, closed_taken}
+use Rattle.slots.specs.RankLaws.{closed_taken}
+use Rattle.slots.proofs.AgedLaws.{aged_taken}
 use Rattle.slots.specs.BelowLaws.{any_hold}
 use Rattle.beats.specs.Beats.{AfterBeat, slots_after_beat, beat}
 use Rattle.beats.specs.Laws.{stayed}

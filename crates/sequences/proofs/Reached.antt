@@ -24,7 +24,8 @@ use Rattle.header.specs.Header.{elements_after, summary}
 use Rattle.arrival.specs.Message.{judged, read_message}
 use Rattle.slots.specs.Below.{all_below}
 use Rattle.slots.specs.BelowLaws.{all_at, count_at_most}
-use Rattle.slots.specs.RankLaws.{has_rank, rank_bound, ranks_differ, Aged, free, moves, yields, stays, aged?}
+use Rattle.slots.specs.RankLaws.{has_rank, rank_bound, ranks_differ, Aged, free, moves, yields, stays}
+use Rattle.slots.proofs.AgedLaws.{aged?}
 use Rattle.slots.specs.FrontLaws.{front_here, front_there}
 use Rattle.slots.specs.Slots.{slot_at, opened, at_front, with_part, with_slots, aged, aged_slot, to_front}
 use Rattle.formed.specs.Laws.{Formed, array_holds}

@@ -20,7 +20,8 @@ use Rattle.arrival.specs.Arrivals.{Brought, single, part}
 use Rattle.arrival.specs.Keys.{of_pages}
 use Rattle.joined.specs.Fronts.{packet_in}
 use Rattle.slots.specs.Below.{all_below}
-use Rattle.slots.specs.RankLaws.{ranks_differ, aged_taken, closed_taken}
+use Rattle.slots.specs.RankLaws.{ranks_differ, closed_taken}
+use Rattle.slots.proofs.AgedLaws.{aged_taken}
 use Rattle.slots.specs.FrontLaws.{front_here, front_there, freed_here, freed_there}
 use Rattle.slots.specs.Slots.{slot_at, opened, free_slot, at_rank, at_count, with_part, aged, closed, to_front, freed, with_slots}
 use Rattle.formed.specs.Formed.{slots_formed, record_formed}

@@ -24,7 +24,8 @@ use Rattle.types.specs.declared.Slot.{Slot}
 use Rattle.slots.specs.BelowLaws.{all_at, all_same, count_at_most}
 use Rattle.slots.specs.Slots.{slot_at, opened, used, at_front, held_at, length_at, with_part, with_slots, aged, closed, to_front, freed}
 use Rattle.formed.specs.Formed.{mark_at}
-use Rattle.slots.specs.RankLaws.{has_rank, pos_taken, aged_taken, aged_mono, closed_taken, closed_mono, rank_bound, ranks_differ}
+use Rattle.slots.specs.RankLaws.{has_rank, pos_taken, closed_taken, closed_mono, rank_bound, ranks_differ}
+use Rattle.slots.proofs.AgedLaws.{aged_taken, aged_mono}
 use Rattle.slots.specs.FrontLaws.{front_here, front_there, freed_here, freed_there}
 use Rattle.formed.specs.Laws.{array_holds, Formed, UsedSlot, slot_tells}
 use Rattle.series.specs.PartLaws.{total_bounds}

@@ -14,7 +14,8 @@ use Rattle.types.specs.declared.Slot.{Slot}
 use Rattle.slots.specs.Below.{all_below}
 use Rattle.slots.specs.BelowLaws.{all_at, all_fails}
 use Rattle.slots.specs.Slots.{slot_at, at_front, aged, aged_slot, to_front}
-use Rattle.slots.specs.RankLaws.{Aged, free, moves, yields, stays, aged?}
+use Rattle.slots.specs.RankLaws.{Aged, free, moves, yields, stays}
+use Rattle.slots.proofs.AgedLaws.{aged?}
 use Rattle.slots.specs.FrontLaws.{front_here}
 use Rattle.formed.specs.Formed.{mark_at}
 use Rattle.series.specs.Taking.{completes}

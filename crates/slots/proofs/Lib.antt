@@ -1,2 +1,3 @@
 pub mod FindSteps
 pub mod OrderSteps
+pub mod AgedLaws

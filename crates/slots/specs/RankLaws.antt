@@ -1,11 +1,11 @@
--- Ranks: where each of 1 to m is a rank and m slots are used, no rank is above m and no two used slots have the same; and coming to the front
--- and freeing keep it so. Said of a rank for each place, whatever the slots hold besides.
-use Rattle.std.specs.Prelude.{ℕ, zero, suc, pred, ◌+◌, ◌-◌, ◌≤◌, ◌<◌, ◌≡◌, Bool, not, cond, ◌&&◌, ◌||◌, ltb}
+-- Ranks: where each of 1 to m is a rank and m slots are used, no rank is above m and no two used slots have the same; and freeing keeps it so,
+-- as coming to the front does, which proofs/AgedLaws.antt says. Said of a rank for each place, whatever the slots hold besides.
+use Rattle.std.specs.Prelude.{ℕ, zero, suc, pred, ◌+◌, ◌-◌, ◌≤◌, ◌<◌, ◌≡◌, Bool, not, cond, ◌&&◌, ◌||◌}
 use Rattle.std.proofs.Math.Path.{refl, ap}
 use Rattle.std.proofs.Common.{sym, ◌∙◌, arith}
 use Rattle.std.proofs.Math.Bool.{true, false}
 use Rattle.std.proofs.Math.Dec.{eqb, leb}
-use borrow.Author.Tests.{eq-eqb, ne_eqb, eqb-true, ltb-true, ltb-false, lt-ltb, le-ltb, leb-true, leb-false, le-leb, lt-leb}
+use borrow.Author.Tests.{eq-eqb, ne_eqb, eqb-true, lt-ltb, le-ltb, leb-true, leb-false, le-leb, lt-leb}
 use Rattle.octets.specs.Tests.{clash, Same, same, other, same?}
 use Rattle.slots.specs.Below.{all_below, any_below, count_below}
 use Rattle.slots.specs.BelowLaws.{all_at, all_hold, any_hold, any_at, count_same, count_zero, count_one, count_mono, count_less, count_full}
@@ -21,7 +21,7 @@ some_rank n rank r = any_below n (λ i. eqb (rank i) r)
 abbrev pub Ranked : ℕ → (ℕ → ℕ) → Type 0
 Ranked n rank = all_below (count_below n (has_rank rank)) (λ r. some_rank n rank (r + 1)) ≡ true
 
-taken_pos : (q : ℕ) → 0 < q → not (eqb q 0) ≡ true
+pub taken_pos : (q : ℕ) → 0 < q → not (eqb q 0) ≡ true
 taken_pos q l = rw (ne_eqb q 0 (λ e. omega arith))
 
 pub pos_taken : (q : ℕ) → not (eqb q 0) ≡ true → 0 < q
@@ -140,25 +140,6 @@ pub data Aged (r q : ℕ) : Type 0 where
   yields : 0 < q → r ≡ 0 → aged r q ≡ suc q → Aged r q
   stays : 0 < q → 0 < r → r ≤ q → aged r q ≡ q → Aged r q
 
-pub aged? : (r q : ℕ) → Aged r q
-unfolding aged
-aged? r q = go (same? q 0) (same? r 0) (ltb q r) refl
-  where
-    go : Same q 0 → Same r 0 → (b : Bool) → ltb q r ≡ b → Aged r q
-    go (same e p) s b l = free p (rw e p)
-    go (other e p) (same f z) b l = yields (omega arith) z (rw (e, f))
-    go (other e p) (other f z) true l = moves (omega arith) z (ltb-true q r l) (rw (e, f, l))
-    go (other e p) (other f z) false l = stays (omega arith) (omega arith) (ltb-false q r l) (rw (e, f, l))
-
-pub aged_taken : (r q : ℕ) → not (eqb (aged r q) 0) ≡ not (eqb q 0)
-aged_taken r q = go (aged? r q)
-  where
-    go : Aged r q → not (eqb (aged r q) 0) ≡ not (eqb q 0)
-    go (free p e) = rw (e, p)
-    go (moves u z l e) = taken_pos (aged r q) (omega arith) ∙ sym (taken_pos q u)
-    go (yields u z e) = taken_pos (aged r q) (omega arith) ∙ sym (taken_pos q u)
-    go (stays u z l e) = rw e
-
 pub closed_near : (r q : ℕ) → q ≤ r → closed r q ≡ q
 unfolding closed
 closed_near r q l = rw (le-ltb r q l)
@@ -176,55 +157,15 @@ closed_taken r q h = go (leb q r) refl
         let l : r < q = leb-false q r e in
         rw (closed_far r q l) (taken_pos (pred q) (omega arith) ∙ sym (taken_pos q (omega arith)))
 
--- ---- coming to the front, and freeing
+-- ---- freeing
 module _ (n : ℕ) (rank : ℕ → ℕ) (w : Ranked n rank) (i : ℕ) (inside : i < n) (rank' : ℕ → ℕ) where
-  place : (r : ℕ) → r < count_below n (has_rank rank) → (j : ℕ) × (j < n) × (rank j ≡ r + 1)
+  pub place : (r : ℕ) → r < count_below n (has_rank rank) → (j : ℕ) × (j < n) × (rank j ≡ r + 1)
   place r l =
       let a = any_at n (λ j. eqb (rank j) (r + 1)) (all_at (count_below n (has_rank rank)) (λ r. some_rank n rank (r + 1)) w r l) in
       (a.0, a.1, eqb-true (rank a.0) (r + 1) a.2)
 
-  found : (r j : ℕ) → j < n → rank' j ≡ r + 1 → some_rank n rank' (r + 1) ≡ true
+  pub found : (r j : ℕ) → j < n → rank' j ≡ r + 1 → some_rank n rank' (r + 1) ≡ true
   found r j l e = any_hold n (λ j. eqb (rank' j) (r + 1)) j l (eq-eqb (rank' j) (r + 1) e)
-
-  pub front_ranked : rank' i ≡ 1 → ((j : ℕ) → j < n → (j ≡ i → ⊥) → rank' j ≡ aged (rank i) (rank j)) → Ranked n rank'
-  front_ranked here there = all_hold (count_below n (has_rank rank')) (λ r. some_rank n rank' (r + 1)) each
-    where
-      same_taken : (j : ℕ) → j < n → (j ≡ i → ⊥) → has_rank rank' j ≡ has_rank rank j
-      same_taken j l ne = rw (there j l ne) (aged_taken (rank i) (rank j))
-
-      taken_here : has_rank rank' i ≡ true
-      taken_here = rw here
-
-      by_place : (j : ℕ) → j < n → Same j i → 0 < rank i → has_rank rank' j ≡ has_rank rank j
-      by_place j l (same e p) u = ap (has_rank rank') p ∙ taken_here ∙ sym (ap (has_rank rank) p ∙ taken_pos (rank i) u)
-      by_place j l (other e p) u = same_taken j l p
-
-      -- how many are used now
-      old_count : 0 < rank i → count_below n (has_rank rank') ≡ count_below n (has_rank rank)
-      old_count u = count_same n (has_rank rank) (has_rank rank') (λ j l. by_place j l (same? j i) u)
-
-      new_count : rank i ≡ 0 → count_below n (has_rank rank') ≡ suc (count_below n (has_rank rank))
-      new_count z = count_one n (has_rank rank) (has_rank rank') i inside (rw z) taken_here same_taken
-
-      -- the place of rank q before is that of rank r + 1 now
-      now_at : (r q : ℕ) → (j : ℕ) × (j < n) × (rank j ≡ q) → (rank i ≡ q → ⊥) → aged (rank i) q ≡ r + 1 → some_rank n rank' (r + 1) ≡ true
-      now_at r q (j, l, e) ne g = found r j l (there j l (λ p. ne (ap rank (sym p) ∙ e)) ∙ ap (aged (rank i)) e ∙ g)
-
-      before : (q : ℕ) → q < count_below n (has_rank rank) → (j : ℕ) × (j < n) × (rank j ≡ suc q)
-      before q l = let a = place q l in (a.0, a.1, omega (arith, a.2))
-
-      next : (k : ℕ) → suc k < count_below n (has_rank rank') → Aged (rank i) (suc k) → Aged (rank i) (suc (suc k)) → some_rank n rank' (suc k + 1) ≡ true
-      next k l (free p e) b = absurd (omega arith)
-      next k l (moves u z m e) b = now_at (suc k) (suc k) (before k (omega (arith, old_count (omega arith)))) (λ q. omega arith) (omega arith)
-      next k l (yields u z e) b = now_at (suc k) (suc k) (before k (omega (arith, new_count z))) (λ q. omega arith) (omega arith)
-      next k l (stays u z m e) (stays u' z' m' e') = now_at (suc k) (suc (suc k)) (before (suc k) (omega (arith, old_count z))) (λ q. omega arith) (omega arith)
-      next k l (stays u z m e) (free p e') = absurd (omega arith)
-      next k l (stays u z m e) (moves u' z' m' e') = absurd (omega arith)
-      next k l (stays u z m e) (yields u' z' e') = absurd (omega arith)
-
-      each : (r : ℕ) → r < count_below n (has_rank rank') → some_rank n rank' (r + 1) ≡ true
-      each zero l = found 0 i inside here
-      each (suc k) l = next k l (aged? (rank i) (suc k)) (aged? (rank i) (suc (suc k)))
 
   pub free_ranked : 0 < rank i → rank' i ≡ 0 → ((j : ℕ) → j < n → (j ≡ i → ⊥) → rank' j ≡ closed (rank i) (rank j)) → Ranked n rank'
   free_ranked u here there = all_hold (count_below n (has_rank rank')) (λ r. some_rank n rank' (r + 1)) each
@@ -249,24 +190,6 @@ module _ (n : ℕ) (rank : ℕ → ℕ) (w : Ranked n rank) (i : ℕ) (inside : 
       each r l = go r l (leb (rank i) (r + 1)) refl
 
 -- ---- ranks keep their order
-pub aged_mono : (r p q : ℕ) → p ≤ q → aged r p ≤ aged r q
-aged_mono r p q l = go (aged? r p) (aged? r q)
-  where
-    go : Aged r p → Aged r q → aged r p ≤ aged r q
-    go (free a e) b = omega arith
-    go (moves a z m e) (free b f) = omega arith
-    go (moves a z m e) (moves b y h f) = omega arith
-    go (moves a z m e) (yields b y f) = absurd (z y)
-    go (moves a z m e) (stays b y h f) = omega arith
-    go (yields a z e) (free b f) = omega arith
-    go (yields a z e) (moves b y h f) = absurd (y z)
-    go (yields a z e) (yields b y f) = omega arith
-    go (yields a z e) (stays b y h f) = omega arith
-    go (stays a z m e) (free b f) = omega arith
-    go (stays a z m e) (moves b y h f) = omega arith
-    go (stays a z m e) (yields b y f) = omega arith
-    go (stays a z m e) (stays b y h f) = omega arith
-
 pub closed_mono : (r p q : ℕ) → p ≤ q → closed r p ≤ closed r q
 closed_mono r p q l = go (leb p r) refl (leb q r) refl
   where
