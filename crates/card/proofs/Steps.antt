@@ -49,6 +49,7 @@ use Rattle.series.specs.Deciding.{all_with, has_with, told_step, step_at, any_ke
 use Rattle.series.specs.KeepLaws.{Sound}
 use Rattle.series.specs.TakeLaws as law
 use Rattle.series.specs.StepLaws as step
+use Rattle.series.proofs.Completing as due_step
 use Rattle.card.specs.Card.{taken_state, taken_octets, take_in}
 
 -- ---- deciding
@@ -81,10 +82,10 @@ module _ (s : List ℕ) (i : ℕ) (cells : List ℕ) (total number : ℕ) (octet
 
       module _ (new : h ≡ false) (b : Bool) (all : b ≡ all_with x.held total number) where
         pub new_last : b ≡ true → finishes i ≡ due
-        new_last e = step.new_last cells total number octets i x there (sym mark ∙ new) b all e
+        new_last e = due_step.new_last cells total number octets i x there (sym mark ∙ new) b all e
 
         pub new_more : b ≡ false → keeps i false x ≡ due
-        new_more e = step.new_more cells total number octets i x there (sym mark ∙ new) b all e
+        new_more e = due_step.new_more cells total number octets i x there (sym mark ∙ new) b all e
 
 -- ---- acting
 pub part_kept : (s t : List ℕ) (i number : ℕ) (octets cells : List ℕ) (y : Slot) (n : ℕ) → Room i number octets cells

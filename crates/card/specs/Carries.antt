@@ -22,7 +22,7 @@ use Rattle.layout.specs.OctetLaws.{read_back, known_octets}
 use Rattle.cells.specs.Cells.{cell_part, joined_octets}
 use Rattle.series.specs.Taking.{State, Answer, After, Step, refuses, repeats, keeps, finishes, hand_out, completes, step_new, step_for, step, acted, take_part, state, after, refuse, unfit, taken, take_message, take_page}
 use Rattle.series.specs.Calls.{Input, message, page, take_input}
-use Rattle.series.specs.KeepLaws.{taken_stays}
+use Rattle.series.proofs.KeepsFormed.{taken_stays}
 use Rattle.card.specs.Card.{TakenState, taken_state, taken_octets, take_in}
 
 -- ---- taking leaves a record that octets can hold

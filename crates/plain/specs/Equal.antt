@@ -31,7 +31,8 @@ use Rattle.beats.specs.Beats.{raised, reached}
 use Rattle.beats.specs.Laws.{Beaten, was_free, is_dropped, is_older, beaten?, beat_formed}
 use Rattle.cells.specs.Cells.{cells_size}
 use Rattle.series.specs.Taking as first
-use Rattle.series.specs.KeepLaws.{Sound, taken_sound, taken_kind}
+use Rattle.series.specs.KeepLaws.{Sound}
+use Rattle.series.proofs.KeepsFormed.{taken_sound, taken_kind}
 use Rattle.series.specs.Calls as first-calls
 use Rattle.series.specs.Calls.{Input, message, page, octets_of, read}
 use Rattle.series.specs.CallLaws.{is_page, admits, taking_any}

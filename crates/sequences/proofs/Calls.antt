@@ -25,7 +25,8 @@ use Rattle.cells.specs.Cells.{cells_size}
 use Rattle.series.specs.Taking.{State, After, state, refuse, unfit, taken}
 use Rattle.beats.specs.Beats.{AfterBeat, beaten, slots_after_beat, dropped_by, leaves_beat, beat}
 use Rattle.beats.specs.Laws.{beat_formed}
-use Rattle.series.specs.KeepLaws.{Sound, taken_sound, taken_kind}
+use Rattle.series.specs.KeepLaws.{Sound}
+use Rattle.series.proofs.KeepsFormed.{taken_sound, taken_kind}
 use Rattle.series.specs.Calls.{Input, octets_of, read, take_input}
 pub use Rattle.series.specs.CallLaws.{is_page, taking_any}
 use Rattle.sequences.specs.Always.{BringsOctets, AlwaysFormed, NoKeyTwice}

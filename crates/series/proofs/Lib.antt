@@ -1,1 +1,3 @@
 pub mod TakeSteps
+pub mod KeepsFormed
+pub mod Completing

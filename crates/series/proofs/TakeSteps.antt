@@ -35,10 +35,11 @@ use Rattle.slots.specs.Slots.{most_slots, slot_at, opened, free_slot, with_part,
 use Rattle.slots.specs.Order.{replaced, front_in, freed_in}
 use Rattle.formed.specs.Formed.{record_formed}
 use Rattle.cells.specs.Cells.{cells_size, cell_at, joined_octets}
-use Rattle.series.specs.Taking.{Answer, After, told_answer, state, after, Step, acted, take_part, take_message, take_page}
+use Rattle.series.specs.Taking.{After, told_answer, state, after, acted, take_part, take_message, take_page}
 use Rattle.series.specs.KeepLaws.{Sound}
 use Rattle.series.specs.Deciding.{told_step, step_at, any_key_of, answer_of, Room, Whole, fronted, emptied, changed, Holds, Seated, Makes, Fitting, taken_where_fit}
-use Rattle.series.specs.StepLaws.{part_lacks, none_lacks, other_total, held_same, held_other, new_last, new_more, finish_total, answer_packet, answer_none, single_answer, single_output, whole_answer, whole_output, handed_out, of_key, part_stored, seat_more, seat_opens}
+use Rattle.series.specs.StepLaws.{part_lacks, none_lacks, other_total, held_same, held_other, finish_total, answer_packet, answer_none, single_answer, single_output, whole_answer, whole_output, handed_out, of_key, part_stored, seat_more, seat_opens}
+use Rattle.series.proofs.Completing.{new_last, new_more}
 use Rattle.series.specs.TakeLaws as law
 use Rattle.series.specs.TakeLaws.{message_fitting, page_fitting}
 

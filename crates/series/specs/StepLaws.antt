@@ -1,4 +1,5 @@
--- Laws of one step of taking, for every engine: which step is due, what acting on it comes to, and the packet that is handed out.
+-- Laws of one step of taking, for every engine: which step is due, what acting on it comes to, and the packet that is handed out. Which is due
+-- for a part that is new stands in proofs/Completing.antt.
 use Rattle.std.specs.Prelude.{ℕ, ◌+◌, ◌≤◌, ◌≡◌, refl, Bool, true, false, not, cond, ◌&&◌, ◌||◌, List, length, get_or, eqb, ltb}
 use Rattle.std.proofs.Common.{◌∙◌, arith, eq-eqb, ne_eqb, eqb-true}
 use Rattle.std.proofs.Math.Option.{Option, none, some}
@@ -52,16 +53,6 @@ module _ (cells : List ℕ) (total number : ℕ) (octets : List ℕ) (i : ℕ) (
 
       pub held_other : b ≡ false → refuses 8 ≡ step_at cells total number octets i x
       held_other e = rw (eq-eqb x.total total is, held, ← compared, e)
-
-    module _ (new : held_at x number ≡ false) (b : Bool) (all : b ≡ all_with x.held total number) where
-      completed : b ≡ completes x number
-      completed = rw (all, is)
-
-      pub new_last : b ≡ true → finishes i ≡ step_at cells total number octets i x
-      new_last e = rw (eq-eqb x.total total is, new, ← completed, e)
-
-      pub new_more : b ≡ false → keeps i false x ≡ step_at cells total number octets i x
-      new_more e = rw (eq-eqb x.total total is, new, ← completed, e)
 
   -- only a part of as many completes a series
   pub finish_total : finishes i ≡ step_at cells total number octets i x → x.total ≡ total

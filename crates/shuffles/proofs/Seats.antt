@@ -33,7 +33,8 @@ use Rattle.cells.specs.Cells.{cell_octets, cell_at, cell_part, joined_octets}
 use Rattle.cells.specs.CellLaws.{cell_inside, cell_here, cell_there}
 use Rattle.series.specs.CaseLaws.{Bears}
 use Rattle.series.specs.PartLaws.{total_bounds, ready_opened}
-use Rattle.series.specs.KeepLaws.{short, part_sound, taken_kind}
+use Rattle.series.specs.KeepLaws.{short}
+use Rattle.series.proofs.KeepsFormed.{part_sound, taken_kind}
 use Rattle.series.specs.Taking.{State, After, Answer, kept, held_already, packet, refused_by, state, after, hand_out, Step, refuses, repeats, keeps, finishes, completes, step, acted, take_part}
 use Rattle.series.specs.KeepLaws.{length_short}
 use Rattle.sequences.specs.Runs.{Store, left}
