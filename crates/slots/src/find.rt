@@ -115,10 +115,14 @@ pub fn with_part(x: Slot, number: usize, n: u8) -> Slot
     y
 }
 
-// Whether two keys are one: every field counts, so 8-bit 2A and 16-bit 002A are two series.
+// Whether two keys are one: every field counts, so 8-bit 2A and 16-bit 002A are two series. Most series of one sender differ by their reference, so
+// that is looked at first, and the rest only if it is the same.
 pub fn same_key(a: Key, b: Key) -> bool
     ensures { result ≡ same_key a b }
 {
+    if a.reference != b.reference {
+        return false;
+    }
     (a.sender == b.sender)
         & (a.width == b.width)
         & (a.reference == b.reference)
