@@ -3,7 +3,7 @@
 // output and the buffer are kept, the tables of counters and of outstanding commands, and how much of each buffer is lent.
 mod asks;
 mod shows;
-pub mod slots;
+pub mod slot_lines;
 
 ghost use Rattle.std.specs.Prelude.{◌≡◌, true, false, get_or};
 ghost use Rattle.words.specs.Line.{gathered};
@@ -76,7 +76,7 @@ pub fn make(
     ensures untouched { Untouched result.understood buffer.old buffer.new }
 {
     if l.row == table::SLOT {
-        return slots::slot_line(b, l, line, text, at);
+        return slot_lines::slot_line(b, l, line, text, at);
     }
     let octets = skelmarix::first_octets(line, l.end);
     let values = l.values;

@@ -107,7 +107,7 @@ fn with_counters(b: Bench, c: types::Counters) -> Bench
 fn counted(row: usize, count: usize, n: usize, octets: &[u8], b: Bench) -> Made
     ensures { result.bench ≡ with_counters b (counters_by row count n octets.now b.counters) }
 {
-    let j = values::counters::after(row, count, n, octets, b.counters);
+    let j = values::counting::after(row, count, n, octets, b.counters);
     let answer = j.answer;
     let table = j.counters;
     Made {

@@ -32,7 +32,7 @@ fn card_slot(l: Line, line: &[u8], c: Chosen, text: &mut [u8], at: usize) -> Tol
 {
     let none = [0u8; 0];
     let b = changes::with_record(c.bench, others::record_in(CARD, c.others, &none));
-    let h = bench::slots::slot_line(b, l, line, text, at);
+    let h = bench::slot_lines::slot_line(b, l, line, text, at);
     if !h.understood {
         return outcome(c, false, at);
     }

@@ -1,7 +1,7 @@
 #![tactic(auto)]
 // Lines that leave alone what is kept: calls on packets, USSD strings, arrivals, parts and reports. Each is known by its row of the table, and its
 // octets are one word's behind the other's (`values::fields`).
-mod build;
+mod building;
 mod packets;
 mod parts;
 
@@ -83,7 +83,7 @@ fn made(l: Line, fields: &[u8], out: &mut [u8]) -> Row {
         return rows::written(rows::OCTETS, packets::sum(l.row, fields, out));
     }
     if (l.row < table::BUILD_CIPHERED_RESPONSE + 1) | (table::SUM_USSD < l.row) {
-        return rows::written(name_of(l.row), build::build(l, fields, out));
+        return rows::written(name_of(l.row), building::build(l, fields, out));
     }
     parts::write(l, fields, out)
 }

@@ -1,6 +1,6 @@
 -- A slot is put only if its parts are understood. Assumes nothing.
 use Rattle.bench.proofs.Steps.{steps}
-use Rattle.bench.proofs.slots.slot_line.Goals as goal
+use Rattle.bench.proofs.slot_lines.slot_line.Goals as goal
 
 pub returns : goal.returns
 returns c = search steps
