@@ -1,4 +1,4 @@
--- The engines are equal over every list of events: what holds between log and record is kept by each call and each beat (`plain/specs/Equal.antt`), so each
+-- The engines are equal over every list of events: what holds between log and record is kept by each call and each beat (`plain/specs/Equal.antt`, `plain/proofs/CallEqual.antt`), so each
 -- event tells the same. What is claimed of the plain engine besides is claimed of the first one already, and carried over by this.
 use Prim.Native.Nat.{ℕ}
 use mathlib.Core.Path.{◌≡◌, refl, sym, ap, ◌∙◌, subst}
@@ -15,7 +15,8 @@ use Rattle.series.specs.Taking.{After, kept, held_already, state}
 use Rattle.series.specs.Calls.{take_input}
 use Rattle.plain.specs.Entries.{log_octets, LogState}
 use Rattle.plain.specs.Engine.{log_beat}
-use Rattle.plain.specs.Equal.{Together, EqualCall, EqualBeat, fresh_together, at_most, together_formed, together_read, call_equal, beat_equal, taking_slots, beat_slots}
+use Rattle.plain.specs.Equal.{Together, EqualCall, EqualBeat, fresh_together, at_most, together_formed, together_read, beat_equal, taking_slots, beat_slots}
+use Rattle.plain.proofs.CallEqual.{call_equal}
 use Rattle.sequences.specs.Runs.{Slots, Call, Event, takes, beats, Store, fresh, outcome, left, left_by, run, ProperCall, Proper, Each}
 use Rattle.sequences.specs.Lists.{elem}
 use Rattle.sequences.specs.Timely.{FewerThanLeast, InTime}

@@ -4,7 +4,6 @@ pub mod Engine
 pub mod Same
 pub mod Walks
 pub mod Copies
-pub mod Takes
 pub mod FormedLaws
 pub mod Equal
 pub mod ReadOff
