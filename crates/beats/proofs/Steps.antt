@@ -13,7 +13,8 @@ use Rattle.slots.specs.Found.{length_of_map}
 use Rattle.slots.specs.Order.{first_whole}
 use Rattle.formed.specs.Formed.{record_formed}
 use Rattle.beats.specs.Beats.{after_beat, beaten, beat}
-use Rattle.beats.specs.Turns.{Beat, dead_told, slot_dropped, slot_free, slot_older, older_fits, beat_starts, dropped_fits, beat_goes_on}
+use Rattle.beats.specs.Turns.{Beat, beat_starts, dropped_fits, beat_goes_on}
+use Rattle.beats.proofs.TurnLaws.{dead_told, slot_dropped, slot_free, slot_older, older_fits}
 
 pub beat_ends : (limit : ℕ) (r s : Record) (dropped i : ℕ) → Beat limit r s dropped i → (b : Bool) → b ≡ record_formed r.count r → not b ≡ false → (limit ≡ 0 → ⊥) → most_slots ≤ i → length r.slots ≡ most_slots → beaten (gives dropped) s ≡ beat r.count r limit
 unfolding beat

@@ -24,7 +24,8 @@ use Rattle.cells.specs.Cells.{cell_octets, cells_size, cell_at, cell_part}
 use Rattle.cells.specs.CellLaws.{part_by_length, cell_here, cell_there}
 use Rattle.series.specs.KeepLaws.{length_short}
 use Rattle.beats.specs.Beats.{slots_after_beat}
-use Rattle.beats.specs.Laws.{Beaten, was_free, is_dropped, is_older, beaten?, beat_at}
+use Rattle.beats.specs.Laws.{Beaten, was_free, is_dropped, is_older, beat_at}
+use Rattle.beats.proofs.BeatenLaws.{beaten?}
 use Rattle.plain.specs.Entries.{Entry}
 use Rattle.plain.specs.Log.{has_entry, has_key, of_slot, is_part, of_rank, only, without, noted_as, touched, touch, moved_up, close, living, older, log_after_beat}
 use Rattle.plain.specs.Same.{All, Once, Fits, SameLog}

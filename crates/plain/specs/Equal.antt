@@ -22,7 +22,8 @@ use Rattle.formed.specs.Formed.{record_formed}
 use Rattle.formed.specs.Laws.{Formed, formed_told, fresh_formed, fresh_slot}
 use Rattle.beats.specs.Beats as beats
 use Rattle.beats.specs.Beats.{raised, reached}
-use Rattle.beats.specs.Laws.{Beaten, was_free, is_dropped, is_older, beaten?, beat_formed}
+use Rattle.beats.specs.Laws.{Beaten, was_free, is_dropped, is_older}
+use Rattle.beats.proofs.BeatenLaws.{beaten?, beat_formed}
 use Rattle.cells.specs.Cells.{cells_size}
 use Rattle.series.specs.Taking as first
 use Rattle.series.specs.KeepLaws.{Sound}

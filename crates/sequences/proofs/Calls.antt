@@ -24,7 +24,7 @@ use Rattle.formed.specs.Laws.{Formed, formed_told, fresh_slot, fresh_formed}
 use Rattle.cells.specs.Cells.{cells_size}
 use Rattle.series.specs.Taking.{State, After, state, refuse, unfit, taken}
 use Rattle.beats.specs.Beats.{AfterBeat, beaten, slots_after_beat, dropped_by, leaves_beat, beat}
-use Rattle.beats.specs.Laws.{beat_formed}
+use Rattle.beats.proofs.BeatenLaws.{beat_formed}
 use Rattle.series.specs.KeepLaws.{Sound}
 use Rattle.series.proofs.KeepsFormed.{taken_sound, taken_kind}
 use Rattle.series.specs.Calls.{Input, octets_of, read, take_input}

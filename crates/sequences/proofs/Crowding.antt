@@ -24,7 +24,7 @@ use Rattle.slots.specs.RankLaws.{closed_taken}
 use Rattle.slots.proofs.AgedLaws.{aged_taken}
 use Rattle.slots.specs.BelowLaws.{any_hold}
 use Rattle.beats.specs.Beats.{AfterBeat, slots_after_beat, beat}
-use Rattle.beats.specs.Laws.{stayed}
+use Rattle.beats.proofs.BeatenLaws.{stayed}
 use Rattle.slots.specs.FrontLaws.{key_same, front_here, front_there, freed_here, freed_there}
 use Rattle.formed.specs.Laws.{Formed, array_holds}
 use Rattle.cells.specs.Cells.{joined_octets}

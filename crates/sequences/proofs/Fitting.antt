@@ -24,7 +24,8 @@ use Rattle.slots.specs.Slots.{most_slots, no_key, slot_at, opened, with_part, to
 use Rattle.slots.specs.FrontLaws.{front_here, front_there, freed_here, freed_there}
 use Rattle.formed.specs.Laws.{Formed, fresh_slot, array_holds}
 use Rattle.beats.specs.Beats.{AfterBeat, slots_after_beat, after_beat, beat}
-use Rattle.beats.specs.Laws.{Beaten, was_free, is_dropped, is_older, beaten?, beat_at}
+use Rattle.beats.specs.Laws.{Beaten, was_free, is_dropped, is_older, beat_at}
+use Rattle.beats.proofs.BeatenLaws.{beaten?}
 use Rattle.cells.specs.Cells.{joined_octets}
 use Rattle.series.specs.Taking.{State, After, state, refuse, hand_out, Step, acted, step, take_part, taken, unfit}
 use Rattle.series.specs.CaseLaws.{Case, other_total, other_octets, held_so, last, more, takes_free, displaces, case_of}

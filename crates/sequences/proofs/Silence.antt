@@ -27,7 +27,8 @@ use Rattle.slots.specs.Slots.{slot_at, opened, free_slot, at_rank, at_count, wit
 use Rattle.formed.specs.Formed.{slots_formed, record_formed}
 use Rattle.formed.specs.Laws.{Formed, array_holds, formed_tells, formed_told}
 use Rattle.beats.specs.Beats.{AfterBeat, after_beat, slots_after_beat, dropped_by, beaten, beat}
-use Rattle.beats.specs.Laws.{Beaten, was_free, is_dropped, is_older, beaten?, beat_at, stayed, beat_formed}
+use Rattle.beats.specs.Laws.{Beaten, was_free, is_dropped, is_older, beat_at}
+use Rattle.beats.proofs.BeatenLaws.{beaten?, stayed, beat_formed}
 use Rattle.cells.specs.Cells.{cells_size, joined_octets}
 use Rattle.series.specs.Taking.{State, After, state, kept, packet, hand_out, Step, acted, step, take_part, taken}
 use Rattle.series.specs.CaseLaws.{Lacks, Case, other_total, other_octets, held_so, last, more, takes_free, displaces, case_of}

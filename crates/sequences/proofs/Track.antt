@@ -22,7 +22,7 @@ use Rattle.cells.specs.Cells.{cell_octets, cells_size, cell_at, cell_part}
 use Rattle.cells.specs.CellLaws.{part_by_length, cell_here, cell_there}
 use Rattle.series.specs.CaseLaws.{Bears, Lacks}
 use Rattle.beats.specs.Beats.{slots_after_beat}
-use Rattle.beats.specs.Laws.{stayed, stays_on}
+use Rattle.beats.proofs.BeatenLaws.{stayed, stays_on}
 use Rattle.sequences.specs.Lists.{elem, elem_key, add}
 use Rattle.sequences.proofs.Lists.{elem_add}
 

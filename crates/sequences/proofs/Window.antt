@@ -34,7 +34,7 @@ use Rattle.cells.specs.CellLaws.{part_by_length, cell_there}
 use Rattle.series.specs.Taking.{State, After, state, kept, held_already, after, Step, repeats, keeps, finishes, completes, acted, hand_out}
 use Rattle.series.specs.CaseLaws.{Bears, Lacks, Case, other_total, other_octets, held_so, last, more, takes_free, displaces}
 use Rattle.beats.specs.Beats.{slots_after_beat}
-use Rattle.beats.specs.Laws.{stayed}
+use Rattle.beats.proofs.BeatenLaws.{stayed}
 use Rattle.series.specs.KeepLaws.{short}
 use Rattle.series.specs.KeepLaws.{length_short}
 use Rattle.sequences.specs.Lists.{concat, elem, elem_key, add, add_key, complete}

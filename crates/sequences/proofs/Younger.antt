@@ -15,7 +15,8 @@ use Rattle.slots.specs.FrontLaws.{past}
 use Rattle.formed.specs.Formed.{most_beats, held_count, slot_formed}
 use Rattle.formed.specs.Laws.{Formed, slot_tells, slot_told, slot_count, free_slot_formed}
 use Rattle.beats.specs.Beats.{after_beat, slots_after_beat}
-use Rattle.beats.specs.Laws.{Beaten, was_free, is_dropped, is_older, beaten?, beat_at, beat_length}
+use Rattle.beats.specs.Laws.{Beaten, was_free, is_dropped, is_older, beat_at, beat_length}
+use Rattle.beats.proofs.BeatenLaws.{beaten?}
 use Rattle.formed.specs.SlotLaws.{same_slot, free_is}
 use Rattle.sequences.specs.Runs.{Slots}
 use Rattle.sequences.specs.Reachable.{KeyFits}

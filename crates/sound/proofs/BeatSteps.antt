@@ -21,7 +21,8 @@ use Rattle.layout.specs.Layout.{state_record, known, on_state}
 use Rattle.layout.specs.Changes.{state_slot, with_slot, Became, Exact}
 use Rattle.layout.specs.Laws.{slots_long}
 use Rattle.beats.specs.Beats.{raised, reached, after_beat, slots_after_beat, dropped_by, beat}
-use Rattle.beats.specs.Turns.{Beat, dead_told, slot_dropped, slot_free, slot_older, older_fits, beat_starts, dropped_fits, beat_goes_on}
+use Rattle.beats.specs.Turns.{Beat, beat_starts, dropped_fits, beat_goes_on}
+use Rattle.beats.proofs.TurnLaws.{dead_told, slot_dropped, slot_free, slot_older, older_fits}
 use Rattle.sound.specs.Card.{beat_in}
 
 -- ---- one slot
