@@ -20,14 +20,21 @@ returns-then-c c =
     let fit = c.if-unfit.false in
     let sound = fit_sound c.args.state c.args.cells.now c.args.out.now c.args.unfit test fit in
     let done : after (told_answer c.match-arrival.c.answer) (changed c.args.state c.match-arrival.c) c.match-arrival.cells c.match-arrival.out
-        ≡ taken_where_fit c.args.state.count (state c.args.state c.args.cells.now c.args.out.now) c.args.paged c.args.octets.now (told_arrival c.args.arrival) =
-        elim c.match-arrival.branch
-        [ in-Refused w ↦ as_change c.args.state w.cells-is w.out-is w.c-is (search (takes_refused, test, fit, w.unchanged-c.ensures, w.in-Refused.is))
-        | in-Single w ↦ as_change c.args.state w.cells-is w.out-is w.c-is
-            (search (takes_single, test, fit, w.own_octets.ensures, w.take_single-c.ensures.answer_value, w.take_single-c.ensures.out_after, w.in-Single.is))
-        | in-Part w ↦ as_change c.args.state w.cells-is w.out-is w.c-is
-            (search (takes_part, test, fit, w.in-Part.is, w.own_octets-part.ensures,
-            part_done _ _ _ _ c.args.cells.now c.args.out.now _ _ _ w.take_part-c.result _ c.args.state _ w.take_part-c.ensures refl w.seat_of-o.ensures.0 w.slot_of-x.ensures sound)) ] in
+    ≡ taken_where_fit c.args.state.count (state c.args.state c.args.cells.now c.args.out.now) c.args.paged c.args.octets.now (told_arrival c.args.arrival) =
+    elim c.match-arrival.branch [
+      | in-Refused w ↦ as_change c.args.state w.cells-is w.out-is w.c-is (search (takes_refused, test, fit, w.unchanged-c.ensures, w.in-Refused.is))
+      | in-Single w ↦ as_change c.args.state w.cells-is w.out-is w.c-is
+          (search (takes_single, test, fit, w.own_octets.ensures, w.take_single-c.ensures.answer_value, w.take_single-c.ensures.out_after, w.in-Single.is))
+      | in-Part w ↦ as_change c.args.state w.cells-is w.out-is w.c-is
+          (search (
+            takes_part,
+            test,
+            fit,
+            w.in-Part.is,
+            w.own_octets-part.ensures,
+            part_done _ _ _ _ c.args.cells.now c.args.out.now _ _ _ w.take_part-c.result _ c.args.state _ w.take_part-c.ensures refl w.seat_of-o.ensures.0 w.slot_of-x.ensures sound,
+          ))
+    ] in
     search (moved_so, done, c.replaced.ensures, c.if-c.true, c.handed_back-then-c.ensures)
 
 pub returns : goal.returns
@@ -36,12 +43,19 @@ returns c =
     let fit = c.if-unfit.false in
     let sound = fit_sound c.args.state c.args.cells.now c.args.out.now c.args.unfit test fit in
     let done : after (told_answer c.match-arrival.c.answer) (changed c.args.state c.match-arrival.c) c.match-arrival.cells c.match-arrival.out
-        ≡ taken_where_fit c.args.state.count (state c.args.state c.args.cells.now c.args.out.now) c.args.paged c.args.octets.now (told_arrival c.args.arrival) =
-        elim c.match-arrival.branch
-        [ in-Refused w ↦ as_change c.args.state w.cells-is w.out-is w.c-is (search (takes_refused, test, fit, w.unchanged-c.ensures, w.in-Refused.is))
-        | in-Single w ↦ as_change c.args.state w.cells-is w.out-is w.c-is
-            (search (takes_single, test, fit, w.own_octets.ensures, w.take_single-c.ensures.answer_value, w.take_single-c.ensures.out_after, w.in-Single.is))
-        | in-Part w ↦ as_change c.args.state w.cells-is w.out-is w.c-is
-            (search (takes_part, test, fit, w.in-Part.is, w.own_octets-part.ensures,
-            part_done _ _ _ _ c.args.cells.now c.args.out.now _ _ _ w.take_part-c.result _ c.args.state _ w.take_part-c.ensures refl w.seat_of-o.ensures.0 w.slot_of-x.ensures sound)) ] in
+    ≡ taken_where_fit c.args.state.count (state c.args.state c.args.cells.now c.args.out.now) c.args.paged c.args.octets.now (told_arrival c.args.arrival) =
+    elim c.match-arrival.branch [
+      | in-Refused w ↦ as_change c.args.state w.cells-is w.out-is w.c-is (search (takes_refused, test, fit, w.unchanged-c.ensures, w.in-Refused.is))
+      | in-Single w ↦ as_change c.args.state w.cells-is w.out-is w.c-is
+          (search (takes_single, test, fit, w.own_octets.ensures, w.take_single-c.ensures.answer_value, w.take_single-c.ensures.out_after, w.in-Single.is))
+      | in-Part w ↦ as_change c.args.state w.cells-is w.out-is w.c-is
+          (search (
+            takes_part,
+            test,
+            fit,
+            w.in-Part.is,
+            w.own_octets-part.ensures,
+            part_done _ _ _ _ c.args.cells.now c.args.out.now _ _ _ w.take_part-c.result _ c.args.state _ w.take_part-c.ensures refl w.seat_of-o.ensures.0 w.slot_of-x.ensures sound,
+          ))
+    ] in
     search (stayed_so, done, c.if-c.false, c.handed_back-2.ensures)
