@@ -65,10 +65,17 @@ fn emptied(rt: HostRuntime) -> bool {
     }
 }
 
-// Writes octets to an open file and closes it. Closing tells no error, so what it could tell is asked for before: whether they are on the disk.
+// Writes octets to an open file and closes it. Closing tells no error, so what it could tell is asked for before: whether they are on the disk. Of
+// what is on no disk, as a device, that cannot be asked, and it is no error.
 fn written(mut file: File, octets: &[u8]) -> io::Result<()> {
     file.write_all(octets)?;
-    file.sync_all()
+    match file.sync_all() {
+        Ok(()) => Ok(()),
+        Err(e) => match e.kind() {
+            io::ErrorKind::InvalidInput => Ok(()),
+            _ => Err(e),
+        },
+    }
 }
 
 // Makes salvage.out of octets. They are written under another name first, so that no part of them is ever taken for all.
