@@ -17,7 +17,7 @@ abbrev pub reached : ℕ → Slot → Bool
 reached limit x = used x && leb limit x.beats
 
 -- First it is raised, then dropped: its entry is zero then. What is dropped is less recent than all that stays, since counts follow recency; so
--- the others keep their ranks, and these have no gap (`Laws: beat_formed`).
+-- the others keep their ranks, and these have no gap (`proofs/BeatenLaws: beat_formed`).
 unfoldable pub after_beat : ℕ → Slot → Slot
 after_beat limit x = cond (reached limit (raised x)) free_slot (raised x)
 

@@ -1,5 +1,5 @@
--- How a header is read, one element after the other: what the walk's own contracts cite. `Laws.antt` shows that it comes to the rules of
--- `Header.antt`.
+-- How a header is read, one element after the other: what the walk's own contracts cite. `proofs/SeenLaws.antt` shows that it comes to the
+-- rules of `Header.antt`.
 use Rattle.std.specs.Prelude.{ℕ, ◌+◌, List, [], ◌∷◌, Bool, true, false, cond, ◌||◌, length, get_or, drop, eqb, leb}
 use Rattle.std.proofs.Math.Option.{Option, none, some}
 use Rattle.types.specs.Refusals.{Outcome, refused, gives}
