@@ -1,7 +1,6 @@
 -- The loop's invariant: the first i octets are 00, and the others as they were. At the end i is the length. Assumes nothing.
 use lib.ListN.{drop, length, replicate}
 use mathlib.Core.List.{◌++◌}
-use Rattle.std.proofs.Common.{◌+◌}
 use Prim.Native.Nat.{◌-◌, ◌≤◌}
 use mathlib.Core.Path.{◌≡◌}
 use Rattle.split.proofs.part.clear.Given as goal
