@@ -1,9 +1,9 @@
 -- Refusals, by number (01, "Numbers of refusal").
+use Rattle.std.specs.declared.result.Result.{Result}
+use Rattle.std.specs.declared.result.Result.TheVariants.{Ok, Err}
 use Rattle.std.specs.Prelude.{ℕ, Bool, true, false, List, ◌++◌, length, drop}
 use Rattle.types.specs.declared.Refusal.{Refusal}
 use Rattle.types.specs.declared.Refusal.TheVariants.{BufferOrRecord, InputLength, HeaderOverrun, HeaderElement, WrongIdentifier, TooManyParts, OtherTotal, OtherOctets, MalformedPacket, CipherMismatch, PacketHeader, PacketTooLong, ReferenceWidth, PartNumber, CheckMismatch, ReportCapacity, ReservedSpi, BeatLimit, CounterTable, UnknownEdition, TableFull, AlreadySent, Unmatched, CaptureTooLong, SlotNumber}
-use Rattle.types.specs.declared.Written.{Written}
-use Rattle.types.specs.declared.Written.TheVariants.{Octets, Refused}
 
 -- the number that the table of 01 gives to each, and 02 to those from 15 on
 abbrev pub refusal_number : Refusal → ℕ
@@ -58,6 +58,6 @@ writes (refused n) buffer = (refused n, buffer)
 writes (gives octets) buffer = (gives (length octets), octets ++ drop (length octets) buffer)
 
 -- what the enum of an answer says
-abbrev pub told_written : Written → Outcome ℕ
-told_written (Octets n) = gives n
-told_written (Refused r) = refused (refusal_number r)
+abbrev pub told_written : Result ℕ Refusal → Outcome ℕ
+told_written (Ok n) = gives n
+told_written (Err r) = refused (refusal_number r)

@@ -4,14 +4,14 @@ ghost use Rattle.std.specs.Prelude.{◌≡◌};
 ghost use Rattle.types.specs.Refusals.{refusal_number};
 
 // Which way a packet goes: to the card, or back from it.
-#[derive(Clone, Copy)]
+#[derive(Clone, Copy, PartialEq, Eq)]
 pub enum Kind {
     Command,
     Response,
 }
 
 // Why a call was refused: its number, its condition, and the calls that give it. `Refusals.antt` has the numbers as a rule.
-#[derive(Clone, Copy)]
+#[derive(Clone, Copy, PartialEq, Eq)]
 pub enum Refusal {
     // 1: a lent buffer of another length than it must have, a record that is not well formed, or a table of commands that says that more than 8
     // entries are in use, or in which two of those are equal. Taking, building, checksum octets, writing, reporting, sending a command, a response
@@ -109,15 +109,15 @@ impl Refusal {
 }
 
 // The security parameters of a command.
-#[derive(Clone, Copy)]
+#[derive(Clone, Copy, PartialEq, Eq)]
 pub struct Spi(pub u8, pub u8);
 
 // The application that a packet is for.
-#[derive(Clone, Copy)]
+#[derive(Clone, Copy, PartialEq, Eq)]
 pub struct Tar(pub u8, pub u8, pub u8);
 
 // The counter of a packet.
-#[derive(Clone, Copy)]
+#[derive(Clone, Copy, PartialEq, Eq)]
 pub struct Cntr(pub u8, pub u8, pub u8, pub u8, pub u8);
 
 // A plain command's fields from its counter on: the counters, and how long the check field and the secured data are.
@@ -181,38 +181,17 @@ pub struct Response {
     pub body: ResponseBody,
 }
 
-// What parsing a command answers.
-#[derive(Clone, Copy)]
-pub enum ParsedCommand {
-    Fields(Command),
-    Refused(Refusal),
-}
-
-// What parsing a response answers.
-#[derive(Clone, Copy)]
-pub enum ParsedResponse {
-    Fields(Response),
-    Refused(Refusal),
-}
-
-// What writing to a lent buffer answers: how many octets are at its start.
-#[derive(Clone, Copy)]
-pub enum Written {
-    Octets(usize),
-    Refused(Refusal),
-}
-
 // ---- arrivals
 // The serial number of a page, and its message identifier: both two octets, each a number of its own sort throughout.
-#[derive(Clone, Copy)]
+#[derive(Clone, Copy, PartialEq, Eq)]
 pub struct SerialNumber(pub u16);
 
-#[derive(Clone, Copy)]
+#[derive(Clone, Copy, PartialEq, Eq)]
 pub struct MessageIdentifier(pub u16);
 
 // What tells a series from every other. A short message's key has a sender, a reference and its width, 8 or 16; a page's key has width 0,
 // a serial number and a message identifier. What a key does not use is zero.
-#[derive(Clone, Copy)]
+#[derive(Clone, Copy, PartialEq, Eq)]
 pub struct Key {
     pub sender: u32,
     pub width: u8,
@@ -233,7 +212,6 @@ pub enum Arrival {
         number: u8,
         start: usize,
     },
-    Refused(Refusal),
 }
 
 // ---- series
@@ -262,17 +240,10 @@ pub struct Record {
     pub slots: [Slot; SLOTS],
 }
 
-// What making a record with a number of slots answers.
-#[derive(Clone, Copy)]
-pub enum Making {
-    Fresh,
-    Refused(Refusal),
-}
-
 // The answer, and the record. Beside a refusal it is one without slots, all zero, which no call accepts.
 #[derive(Clone, Copy)]
 pub struct Made {
-    pub answer: Making,
+    pub answer: Result<(), Refusal>,
     pub record: Record,
 }
 
@@ -282,27 +253,19 @@ pub enum Answer {
     Kept { slot: usize, displaced: bool },
     HeldAlready { slot: usize },
     Packet { length: usize },
-    Refused(Refusal),
 }
 
 // The answer, and the record as it is afterwards.
 #[derive(Clone, Copy)]
 pub struct Taken {
-    pub answer: Answer,
+    pub answer: Result<Answer, Refusal>,
     pub record: Record,
-}
-
-// What a beat answers: how many series were dropped.
-#[derive(Clone, Copy)]
-pub enum Beating {
-    Dropped(u8),
-    Refused(Refusal),
 }
 
 // The answer, and the record as it is afterwards.
 #[derive(Clone, Copy)]
 pub struct Beaten {
-    pub answer: Beating,
+    pub answer: Result<u8, Refusal>,
     pub record: Record,
 }
 
@@ -319,20 +282,20 @@ pub struct Log {
 // The answer, and the log. Beside a refusal it is one without slots, which no call accepts.
 #[derive(Clone, Copy)]
 pub struct LogMade {
-    pub answer: Making,
+    pub answer: Result<(), Refusal>,
     pub log: Log,
 }
 
 // The answer, and the log as it is afterwards.
 #[derive(Clone, Copy)]
 pub struct LogTaken {
-    pub answer: Answer,
+    pub answer: Result<Answer, Refusal>,
     pub log: Log,
 }
 
 #[derive(Clone, Copy)]
 pub struct LogBeaten {
-    pub answer: Beating,
+    pub answer: Result<u8, Refusal>,
     pub log: Log,
 }
 
@@ -396,17 +359,10 @@ pub struct Counters {
     pub entries: [CounterEntry; COUNTER_ENTRIES],
 }
 
-// What judging the counter of a command answers: a status of TS 102 225, as a response bears it, or a refusal.
-#[derive(Clone, Copy)]
-pub enum Judgement {
-    Status(u8),
-    Refused(Refusal),
-}
-
 // The answer, and the table as it is afterwards.
 #[derive(Clone, Copy)]
 pub struct JudgedCounter {
-    pub answer: Judgement,
+    pub answer: Result<u8, Refusal>,
     pub counters: Counters,
 }
 
@@ -416,7 +372,7 @@ pub const OUTSTANDING_ENTRIES: usize = 8;
 
 // A command that was sent: the number that the caller gives to the card that answers it, as the sender of what comes from there, and the
 // command's application and counter.
-#[derive(Clone, Copy)]
+#[derive(Clone, Copy, PartialEq, Eq)]
 pub struct SentCommand {
     pub sender: u32,
     pub tar: Tar,
@@ -430,41 +386,33 @@ pub struct Outstanding {
     pub entries: [SentCommand; OUTSTANDING_ENTRIES],
 }
 
-// What noting a command that was sent answers.
-#[derive(Clone, Copy)]
-pub enum Sending {
-    Sent,
-    Refused(Refusal),
-}
-
 // The answer, and the table as it is afterwards.
 #[derive(Clone, Copy)]
 pub struct AfterSending {
-    pub answer: Sending,
+    pub answer: Result<(), Refusal>,
     pub outstanding: Outstanding,
 }
 
 // What a response that came answers: it closed its command, or the command waits for the complete response.
-#[derive(Clone, Copy)]
+#[derive(Clone, Copy, PartialEq, Eq)]
 pub enum Closing {
     Closed,
     Waiting,
-    Refused(Refusal),
 }
 
 // The answer, and the table as it is afterwards.
 #[derive(Clone, Copy)]
 pub struct AfterResponse {
-    pub answer: Closing,
+    pub answer: Result<Closing, Refusal>,
     pub outstanding: Outstanding,
 }
 
 // ---- splitting
 // What writing one part answers: how many parts the packet has, and how many octets are at the buffer's start.
 #[derive(Clone, Copy)]
-pub enum WrittenPart {
-    Part { total: usize, length: usize },
-    Refused(Refusal),
+pub struct WrittenPart {
+    pub total: usize,
+    pub length: usize,
 }
 
 // ---- reporting
@@ -476,21 +424,13 @@ pub enum Outgoing {
     Report { length: usize },
     Announcement { length: usize },
     Submit,
-    Refused(Refusal),
 }
 
 // The editions of the text that a card follows: they differ in the status that announces a response.
+// An edition stays a number, since a caller may name one that is not known here, which reporting refuses by 20.
 pub const OLD_EDITION: u32 = 0;
 
 pub const PRESENT_EDITION: u32 = 1;
-
-// Whether a response only says that another follows.
-#[derive(Clone, Copy)]
-pub enum Announcing {
-    Yes,
-    No,
-    Refused(Refusal),
-}
 
 // ---- captures
 // The most octets of a capture that can be salvaged, and how many octets of a record are before its own: its mark, its kind and its length.
@@ -512,10 +452,9 @@ pub struct SkippedRun {
 pub enum Captured {
     UserData { start: usize },
     Page { start: usize },
-    Unsound,
 }
 
 // ---- numbers on the air
 // Two octets of a 16-bit number, the high one first, as they are on the air.
-#[derive(Clone, Copy)]
+#[derive(Clone, Copy, PartialEq, Eq)]
 pub struct Pair(pub u8, pub u8);
