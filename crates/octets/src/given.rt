@@ -4,56 +4,29 @@ ghost use Rattle.std.specs.Prelude.{◌≡◌, take};
 ghost use Rattle.octets.specs.Given.{packet_length, written_length, part_length};
 
 use crate::up_to;
-use types::{Answer, Written, WrittenPart};
+use types::{Answer, Refusal, WrittenPart};
 
-// ---- lengths
-fn packet_length(answer: Answer) -> usize
-    ensures { result ≡ packet_length answer }
-{
-    match answer {
-        Answer::Packet { length } => length,
-        Answer::Kept { slot, displaced } => 0,
-        Answer::HeldAlready { slot } => 0,
-        Answer::Refused(why) => 0,
-    }
-}
-
-fn written_length(written: Written) -> usize
-    ensures { result ≡ written_length written }
-{
-    match written {
-        Written::Octets(n) => n,
-        Written::Refused(why) => 0,
-    }
-}
-
-fn part_length(part: WrittenPart) -> usize
-    ensures { result ≡ part_length part }
-{
-    match part {
-        WrittenPart::Part { total, length } => length,
-        WrittenPart::Refused(why) => 0,
-    }
-}
-
-// ---- octets
 // The packet that taking has put at the start of the output; of another answer, the empty part.
-pub fn packet_in<'a>(answer: Answer, out: &'a [u8]) -> &'a [u8]
+pub fn packet_in<'a>(answer: Result<Answer, Refusal>, out: &'a [u8]) -> &'a [u8]
     ensures { result.now ≡ take (packet_length answer) out.now }
 {
-    up_to(out, packet_length(answer))
+    let length = match answer {
+        Ok(Answer::Packet { length }) => length,
+        Ok(Answer::Kept { .. } | Answer::HeldAlready { .. }) | Err(_) => 0,
+    };
+    up_to(out, length)
 }
 
 // What building or collecting has written at the start of the buffer; of a refusal, the empty part.
-pub fn written_in<'a>(written: Written, buffer: &'a [u8]) -> &'a [u8]
+pub fn written_in<'a>(written: Result<usize, Refusal>, buffer: &'a [u8]) -> &'a [u8]
     ensures { result.now ≡ take (written_length written) buffer.now }
 {
-    up_to(buffer, written_length(written))
+    up_to(buffer, written.unwrap_or(0))
 }
 
 // The user data or the page that splitting has written; of a refusal, the empty part.
-pub fn part_in<'a>(part: WrittenPart, buffer: &'a [u8]) -> &'a [u8]
+pub fn part_in<'a>(part: Result<WrittenPart, Refusal>, buffer: &'a [u8]) -> &'a [u8]
     ensures { result.now ≡ take (part_length part) buffer.now }
 {
-    up_to(buffer, part_length(part))
+    up_to(buffer, part.map_or(0, |p| p.length))
 }

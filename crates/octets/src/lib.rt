@@ -7,42 +7,33 @@ ghost use Rattle.octets.specs.Octets.{pair_of, number_of, fits_at, after_put, sa
 
 use types::Pair;
 
-// The two octets of a number.
+// The two octets of a number, the high one first.
 pub fn pair_of(n: u16) -> Pair
     ensures { result ≡ pair_of n }
 {
-    Pair((n / 256) as u8, (n % 256) as u8)
+    let [high, low] = n.to_be_bytes();
+    Pair(high, low)
 }
 
 // An octet as a length.
 pub fn wide(x: u8) -> usize
     ensures { result ≡ x }
 {
-    x as usize
-}
-
-// An octet as a number of 16 bits.
-fn half(x: u8) -> u16
-    ensures { result ≡ x }
-{
-    x as u16
+    usize::from(x)
 }
 
 // The number that two octets are.
 pub fn number_of(high: u8, low: u8) -> u16
     ensures { result ≡ number_of high low }
 {
-    half(high) * 256 + half(low)
+    u16::from_be_bytes([high, low])
 }
 
 // The first n octets of a slice, where they are, or all if there are fewer.
 pub fn up_to<'a>(src: &'a [u8], n: usize) -> &'a [u8]
     ensures { result.now ≡ take n src.now }
 {
-    if n < src.len() {
-        return &src[..n];
-    }
-    src
+    src.get(..n).unwrap_or(src)
 }
 
 // Puts src into dst from the place `at` on, and says whether it fits there; if it does not, dst stays as it was.
@@ -50,29 +41,16 @@ pub fn put(src: &[u8], dst: &mut [u8], at: usize) -> bool
     ensures value { result ≡ fits_at dst.old at src.now }
     ensures dst_after { dst.new ≡ after_put dst.old at src.now }
 {
-    if dst.len() < at {
+    if dst.len() < at || dst.len() - at < src.len() {
         return false;
     }
-    if dst.len() - at < src.len() {
-        return false;
-    }
-    let end = at + src.len();
-    dst[at..end].copy_from_slice(src);
+    dst[at..at + src.len()].copy_from_slice(src);
     true
 }
 
-// Whether two slices hold the same octets: as many, and the same at each place. Every octet is looked at, so that many are compared at once.
+// Whether two slices hold the same octets: as many, and the same at each place.
 pub fn same(a: &[u8], b: &[u8]) -> bool
     ensures { result ≡ same_octets a.now b.now }
 {
-    if a.len() != b.len() {
-        return false;
-    }
-    let mut ok = true;
-    let mut i = 0;
-    while i < a.len() {
-        ok = ok & (a[i] == b[i]);
-        i = i + 1;
-    }
-    ok
+    a == b
 }

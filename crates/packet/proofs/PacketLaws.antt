@@ -1,4 +1,7 @@
 -- Laws of whole packets: what the lengths of a well-formed packet say, and the two round trips.
+use Rattle.std.specs.declared.result.Result.{Result}
+use Rattle.std.specs.declared.result.Result.TheVariants.{Ok}
+use Rattle.types.specs.declared.Refusal.{Refusal}
 use Rattle.std.specs.Prelude.{ℕ, suc, ◌+◌, ◌/◌, ◌%◌, ◌≤◌, ◌<◌, ◌≡◌, refl, Bool, true, false, ◌&&◌, List, [], ◌∷◌, ◌++◌, length, get_or, take, drop, eqb, ltb, leb}
 use Rattle.std.proofs.Common.{sym, ◌∙◌, arith, length-append, length-drop, get_or-drop, eqb-true, eq-eqb, leb-true, le-leb, le-ltb}
 use Rattle.std.proofs.Math.Path.{ap}
@@ -10,8 +13,6 @@ use Rattle.types.specs.declared.Kind.{Kind}
 use Rattle.types.specs.declared.Kind.TheVariants.{Command}
 use Rattle.types.specs.Refusals.{gives}
 use Rattle.packet.specs.Packets.{least, cpl, chl, well_formed, within, Fields, plain, fields_of, ciphered_command, measured, against_check, readable, parsing, shown, secured_of, check_of, opaque_of, shown_data, shown_check, shown_opaque, header_length, behind, packet_from, packet_of, is_ciphered, building, fixed_octets, without_check, checksum_octets}
-use Rattle.packet.specs.declared.read.Judged.{Judged}
-use Rattle.packet.specs.declared.read.Judged.TheVariants as judged
 use Rattle.packet.specs.Laws.{within_facts, within_told, PacketLengths, readable_formed, RightLength, built_is, header_right, built_fields, built_checked, fitting_again, same_behind, same_header}
 use Rattle.packet.specs.Judging.{told_judged, readable_gives}
 
@@ -30,8 +31,8 @@ formed_within k p e = let f = formed_facts k p e in within_told k (chl p) (drop 
 
 -- so of a packet that can be read
 module _ (k : Kind) (c : Bool) (p : List ℕ) where
-  module _ (j : Judged) (e : told_judged j ≡ readable k c p (gives (chl p))) where
-    module _ (h : ℕ) (t : j ≡ judged.Readable h) where
+  module _ (j : Result ℕ Refusal) (e : told_judged j ≡ readable k c p (gives (chl p))) where
+    module _ (h : ℕ) (t : j ≡ Ok h) where
       pub judged_formed : PacketLengths k p
       judged_formed = formed_facts k p (readable_gives k c p (chl p) h (sym (ap told_judged t) ∙ e)).0.formed
 

@@ -1,17 +1,17 @@
 -- Whether a packet can be read, as its own answer, and what that tells of the packet.
+use Rattle.std.specs.declared.result.Result.{Result}
+use Rattle.std.specs.declared.result.Result.TheVariants.{Ok, Err}
 use Rattle.std.specs.Prelude.{ℕ, ◌≤◌, ◌≡◌, refl, Bool, true, false, not, List, length, ltb}
 use Rattle.std.proofs.Common.{sym, ap, ◌∙◌, arith, ltb-false}
 use Rattle.types.specs.declared.Kind.{Kind}
 use Rattle.types.specs.declared.Refusal.{Refusal}
-use Rattle.packet.specs.declared.read.Judged.{Judged}
-use Rattle.packet.specs.declared.read.Judged.TheVariants as judged
 use Rattle.types.specs.Refusals.{Outcome, refused, gives, refuse◌when◌otherwise◌, refusal_number}
 use Rattle.packet.specs.Packets.{chl, well_formed, fields_of, against_check, readable, shown, shown_by}
 
 -- what the answer to "can this packet be read" says: the header length, or the refusal
-abbrev pub told_judged : Judged → Outcome ℕ
-told_judged (judged.Readable header) = gives header
-told_judged (judged.Refused r) = refused (refusal_number r)
+abbrev pub told_judged : Result ℕ Refusal → Outcome ℕ
+told_judged (Ok header) = gives header
+told_judged (Err r) = refused (refusal_number r)
 
 -- what follows where something was refused, and where it was not
 abbrev pub and_then : {A : Type 0} → Outcome ℕ → Outcome A → Outcome A
@@ -50,8 +50,8 @@ module _ (k : Kind) (c : Bool) (p : List ℕ) where
       go true false false f g h e = (record { formed = f; size = ltb-false 2142 (length p) g; checked = h }, cc)
       go false l a f g h e = let z : ◌≡◌ {A = ℕ} 0 1 = cc in absurd (omega arith)
 
-  module _ (j : Judged) (e : told_judged j ≡ readable k c p (gives (chl p))) where
-    module _ (h : ℕ) (t : j ≡ judged.Readable h) where
+  module _ (j : Result ℕ Refusal) (e : told_judged j ≡ readable k c p (gives (chl p))) where
+    module _ (h : ℕ) (t : j ≡ Ok h) where
       facts : Readable × (h ≡ chl p)
       facts = readable_gives (chl p) h (sym (ap told_judged t) ∙ e)
 
@@ -64,6 +64,6 @@ module _ (k : Kind) (c : Bool) (p : List ℕ) where
       pub judged_readable : {A : Type 0} (o : Outcome A) → o ≡ readable k c p o
       judged_readable o = sym (rw (readable_then (chl p) o, ← e, t))
 
-    module _ (r : Refusal) (t : j ≡ judged.Refused r) where
+    module _ (r : Refusal) (t : j ≡ Err r) where
       pub judged_refused : {A : Type 0} (o : Outcome A) → refused (refusal_number r) ≡ readable k c p o
       judged_refused o = rw (readable_then (chl p) o, ← e, t)

@@ -1,4 +1,9 @@
 -- What the answers of parsing say, in the words of the paper: the fields in the packet's order.
+use Rattle.std.specs.declared.result.Result.{Result}
+use Rattle.std.specs.declared.result.Result.TheVariants.{Ok, Err}
+use Rattle.types.specs.declared.Refusal.{Refusal}
+use Rattle.types.specs.declared.Command as parsed_command
+use Rattle.types.specs.declared.Response as parsed_response
 use Rattle.std.specs.Prelude.{ℕ, List, [], ◌∷◌, ◌++◌}
 use Rattle.types.specs.declared.Tar.{Tar}
 use Rattle.types.specs.declared.Cntr.{Cntr}
@@ -7,10 +12,6 @@ use Rattle.types.specs.declared.CommandBody.{CommandBody}
 use Rattle.types.specs.declared.CommandBody.TheVariants as command
 use Rattle.types.specs.declared.ResponseBody.{ResponseBody}
 use Rattle.types.specs.declared.ResponseBody.TheVariants as response
-use Rattle.types.specs.declared.ParsedCommand.{ParsedCommand}
-use Rattle.types.specs.declared.ParsedCommand.TheVariants as parsed_command
-use Rattle.types.specs.declared.ParsedResponse.{ParsedResponse}
-use Rattle.types.specs.declared.ParsedResponse.TheVariants as parsed_response
 use Rattle.types.specs.Refusals.{Outcome, refused, gives, refusal_number}
 use Rattle.packet.specs.Packets.{Parsed, plain_parsed, ciphered_parsed}
 
@@ -41,10 +42,10 @@ abbrev pub response_fields : Tar → ResponseBody → Parsed
 response_fields t (response.Plain b) = plain_parsed (response_fixed t b.cntr b.pcntr b.status) b.check_length b.data_length
 response_fields t (response.Ciphered b) = ciphered_parsed (tar_octets t) b.header_length b.opaque_length
 
-abbrev pub told_command : ParsedCommand → Outcome Parsed
-told_command (parsed_command.Fields c) = gives (command_fields c.clear c.body)
-told_command (parsed_command.Refused r) = refused (refusal_number r)
+abbrev pub told_command : Result parsed_command.Command Refusal → Outcome Parsed
+told_command (Ok c) = gives (command_fields c.clear c.body)
+told_command (Err r) = refused (refusal_number r)
 
-abbrev pub told_response : ParsedResponse → Outcome Parsed
-told_response (parsed_response.Fields c) = gives (response_fields c.tar c.body)
-told_response (parsed_response.Refused r) = refused (refusal_number r)
+abbrev pub told_response : Result parsed_response.Response Refusal → Outcome Parsed
+told_response (Ok c) = gives (response_fields c.tar c.body)
+told_response (Err r) = refused (refusal_number r)

@@ -37,7 +37,7 @@ pub fn cipher_bit(spi: u8) -> bool
 pub fn differ(a: bool, b: bool) -> bool
     ensures { result ≡ differ a b }
 {
-    if a { !b } else { b }
+    a != b
 }
 
 // Whether the check bits of an SPI whose first octet this is are against a check field of so many octets. A response has no SPI.

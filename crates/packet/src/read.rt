@@ -6,7 +6,7 @@ ghost use Rattle.packet.specs.Told.{told_command, told_response};
 ghost use Rattle.packet.specs.Judging.{told_judged};
 
 use crate::{behind, layout};
-use types::{Kind, PACKET_OCTETS, ParsedCommand, ParsedResponse, Refusal};
+use types::{Command, Kind, PACKET_OCTETS, Refusal, Response};
 
 // ---- well formed
 // Whether a packet of `size` octets that begins with these three is well formed: nothing else of a packet is looked at, so a caller whose
@@ -14,8 +14,8 @@ use types::{Kind, PACKET_OCTETS, ParsedCommand, ParsedResponse, Refusal};
 pub fn formed(kind: Kind, size: usize, high: u8, low: u8, header: u8) -> bool
     ensures { result ≡ formed_by kind size high low header }
 {
-    let cpl = octets::number_of(high, low) as usize;
-    let chl = octets::wide(header);
+    let cpl = usize::from(octets::number_of(high, low));
+    let chl = usize::from(header);
     let least = layout::least(kind);
     (cpl + 2 == size) & (least <= chl) & (chl + 1 <= cpl)
 }
@@ -24,10 +24,10 @@ pub fn formed(kind: Kind, size: usize, high: u8, low: u8, header: u8) -> bool
 pub fn well_formed(kind: Kind, packet: &[u8]) -> bool
     ensures { result ≡ well_formed kind packet.now }
 {
-    if packet.len() < 3 {
+    let [high, low, header, ..] = packet else {
         return false;
-    }
-    formed(kind, packet.len(), packet[0], packet[1], packet[2])
+    };
+    formed(kind, packet.len(), *high, *low, *header)
 }
 
 // CHL or RHL; of a packet too short for it, 0.
@@ -44,24 +44,17 @@ pub fn ciphered_command(packet: &[u8]) -> bool
     layout::cipher_bit(behind::octet(packet, 3))
 }
 
-// What every reading asks of a packet first: the refusal, or the header length of a packet that can be read.
-#[derive(Clone, Copy)]
-pub enum Judged {
-    Readable(usize),
-    Refused(Refusal),
-}
-
 // What is asked of a packet before what is behind its lengths: 9, then 12, or its header length.
-fn front(kind: Kind, packet: &[u8]) -> Judged
+fn front(kind: Kind, packet: &[u8]) -> Result<usize, Refusal>
     ensures { told_judged result ≡ sized kind packet.now (gives (chl packet.now)) }
 {
     if !well_formed(kind, packet) {
-        return Judged::Refused(Refusal::MalformedPacket);
+        return Err(Refusal::MalformedPacket);
     }
     if PACKET_OCTETS < packet.len() {
-        return Judged::Refused(Refusal::PacketTooLong);
+        return Err(Refusal::PacketTooLong);
     }
-    Judged::Readable(octets::wide(header_of(packet)))
+    Ok(usize::from(header_of(packet)))
 }
 
 // What is behind the two lengths of a packet.
@@ -72,48 +65,33 @@ pub fn behind_lengths(packet: &[u8]) -> &[u8]
 }
 
 // Whether a packet can be read, whose body is ciphered or not: 9, then 12, then 15.
-pub fn judge(kind: Kind, ciphered: bool, packet: &[u8]) -> Judged
+pub fn judge(kind: Kind, ciphered: bool, packet: &[u8]) -> Result<usize, Refusal>
     ensures { told_judged result ≡ readable kind ciphered packet.now (gives (chl packet.now)) }
 {
-    let judged = front(kind, packet);
-    match judged {
-        Judged::Refused(refusal) => Judged::Refused(refusal),
-        Judged::Readable(header) => {
-            if behind::against_check(kind, ciphered, header, behind_lengths(packet)) {
-                return Judged::Refused(Refusal::CheckMismatch);
-            }
-            Judged::Readable(header)
-        }
+    let header = front(kind, packet)?;
+    if behind::against_check(kind, ciphered, header, behind_lengths(packet)) {
+        return Err(Refusal::CheckMismatch);
     }
+    Ok(header)
 }
 
 // ---- parsing
 // Parses a command: its fields, or refusal 9, 12 or 15.
-pub fn parse_command(packet: &[u8]) -> ParsedCommand
+pub fn parse_command(packet: &[u8]) -> Result<Command, Refusal>
     ensures { told_command result ≡ parsing Kind.Command (ciphered_command packet.now) packet.now }
 {
-    let judged = front(Kind::Command, packet);
-    match judged {
-        Judged::Refused(refusal) => ParsedCommand::Refused(refusal),
-        Judged::Readable(_) => behind::command(
-            ciphered_command(packet),
-            header_of(packet),
-            behind_lengths(packet),
-        ),
-    }
+    front(Kind::Command, packet)?;
+    behind::command(
+        ciphered_command(packet),
+        header_of(packet),
+        behind_lengths(packet),
+    )
 }
 
 // Parses a response, of which the caller says whether it is ciphered: its fields, or refusal 9 or 12.
-pub fn parse_response(packet: &[u8], ciphered: bool) -> ParsedResponse
+pub fn parse_response(packet: &[u8], ciphered: bool) -> Result<Response, Refusal>
     ensures { told_response result ≡ parsing Kind.Response ciphered packet.now }
 {
-    let judged = front(Kind::Response, packet);
-    match judged {
-        Judged::Refused(refusal) => ParsedResponse::Refused(refusal),
-        Judged::Readable(_) => behind::response(
-            ciphered,
-            header_of(packet),
-            behind_lengths(packet),
-        ),
-    }
+    front(Kind::Response, packet)?;
+    behind::response(ciphered, header_of(packet), behind_lengths(packet))
 }

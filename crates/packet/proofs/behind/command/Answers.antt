@@ -1,12 +1,9 @@
--- `command` meets its contract. The two tests are in the rule's order, and a header within the octets has its fields there.
+-- `command` meets its contract: what was asked first is asked in the rule's order, and a header within the octets has its fields there.
 use Rattle.packet.proofs.Fields.{steps}
 use Rattle.packet.proofs.behind.command.Goals as goal
 
-pub returns-then-not-within : goal.returns-then-not-within
-returns-then-not-within c = search steps
-
-pub returns-then-against_check : goal.returns-then-against_check
-returns-then-against_check c = search steps
+pub returns-in_err-checked : goal.returns-in_err-checked
+returns-in_err-checked c = search steps
 
 pub returns : goal.returns
-returns c = search steps
+returns c = search (steps, c.in_ok-checked.was)

@@ -2,8 +2,8 @@
 use Rattle.packet.proofs.Reading.{steps}
 use Rattle.packet.proofs.read.parse_response.Goals as goal
 
-pub returns-in-Refused : goal.returns-in-Refused
-returns-in-Refused c = search steps
+pub returns-in_err-front : goal.returns-in_err-front
+returns-in_err-front c = search steps
 
-pub returns-in-Readable : goal.returns-in-Readable
-returns-in-Readable c = search steps
+pub returns : goal.returns
+returns c = search (steps, c.in_ok-front.was)

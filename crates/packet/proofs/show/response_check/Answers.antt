@@ -1,6 +1,0 @@
--- `response_check` meets its contract. The octets behind the lengths begin at 3.
-use Rattle.packet.proofs.Showing.{steps}
-use Rattle.packet.proofs.show.response_check.Goals as goal
-
-pub returns : goal.returns
-returns c = search steps
