@@ -1,9 +1,11 @@
 -- Captures (02, [14]): which octets of a file are sound records, what of it is copied, and what is skipped.
+use Rattle.std.specs.declared.option.Option as option
+use Rattle.std.specs.declared.option.Option.TheVariants.{Some, None}
 use Rattle.std.specs.Prelude.{ℕ, zero, suc, ◌+◌, ◌-◌, Bool, true, false, not, cond, ◌&&◌, ◌||◌, List, [], ◌∷◌, length, get_or, drop, eqb, ltb, leb}
 use Rattle.types.specs.Refusals.{Lent, refuse◌when◌otherwise◌, gives, writes}
 use Rattle.types.specs.declared.SkippedRun.{SkippedRun}
 use Rattle.types.specs.declared.Captured.{Captured}
-use Rattle.types.specs.declared.Captured.TheVariants.{UserData, Page, Unsound}
+use Rattle.types.specs.declared.Captured.TheVariants.{UserData, Page}
 
 -- ---- a record, in the octets from its position to the file's end
 -- "a mark of two octets, A5 5A": both octets are there
@@ -91,5 +93,5 @@ abbrev pub sound_alone : List ℕ → Bool
 sound_alone o = begins_right o && eqb (length o) (record_length o)
 
 -- what it is, and where its own octets begin
-unfoldable pub record_in : List ℕ → Captured
-record_in o = cond (sound_alone o) (cond (eqb (kind_of o) 1) (UserData record_head) (Page record_head)) Unsound
+unfoldable pub record_in : List ℕ → option.Option Captured
+record_in o = cond (sound_alone o) (cond (eqb (kind_of o) 1) (Some (UserData record_head)) (Some (Page record_head))) None

@@ -1,5 +1,5 @@
 -- Laws of what `Captures.antt` defines: how reading goes on behind a sound record and behind an octet that is skipped, and an induction along it.
-use Rattle.std.specs.Prelude.{ℕ, zero, suc, ◌+◌, ◌-◌, ◌≤◌, ◌<◌, ◌≡◌, refl, Bool, true, false, cond, ◌||◌, List, [], ◌∷◌, ◌++◌, length, take, drop, replicate, eqb}
+use Rattle.std.specs.Prelude.{ℕ, zero, suc, ◌+◌, ◌-◌, ◌≤◌, ◌<◌, ◌≡◌, refl, Bool, true, false, ◌||◌, List, [], ◌∷◌, ◌++◌, length, take, drop, replicate, eqb}
 use Rattle.std.proofs.Common.{ap, arith, add-zero, add_assoc, length-drop, drop-drop, eqb-true}
 use Rattle.std.proofs.lemmas.List.{length-replicate}
 use Rattle.std.proofs.Math.Seq.{drop-append-add}
@@ -8,9 +8,11 @@ use Rattle.types.specs.declared.SkippedRun.{SkippedRun}
 use Rattle.capture.specs.Captures.{has_mark, record_length, begins_right, sound, fates, chosen, salvaged, leading, next_run}
 
 -- ---- what the inner calls promise
--- how many octets the sound record has that stands at the front; none, if no record is sound there
-abbrev pub sound_length : List ℕ → ℕ
-sound_length o = cond (sound o) (record_length o) 0
+-- at the front a record is sound, and has n octets, which are there
+pub record SoundRecord (o : List ℕ) (n : ℕ) : Type 0 where
+  pub sound : sound o ≡ true
+  pub long : n ≡ record_length o
+  pub inside : n ≤ length o
 
 -- how many octets at the front are skipped
 abbrev pub skipped_at : List ℕ → ℕ

@@ -1,4 +1,6 @@
 -- What the proofs of `header` cite: one law for each return and call, over plain variables.
+use Rattle.std.specs.declared.option.Option as option
+use Rattle.std.specs.declared.option.Option.TheVariants.{Some, None}
 use Prim.Native.Nat.{ℕ, suc, ◌+◌, ◌≤◌, ◌<◌, ◌-◌}
 use mathlib.Core.Path.{◌≡◌, refl, sym, ap, ◌∙◌}
 use mathlib.Core.List.{List, [], ◌∷◌}
@@ -12,9 +14,8 @@ use borrow.Author.Tests.{leb-true, le-leb, lt-leb, ne_eqb}
 use Rattle.header.specs.declared.Seen.{Seen}
 use Rattle.header.specs.declared.Cursor.{Cursor}
 use Rattle.header.specs.declared.Element.{Element}
-use Rattle.header.specs.declared.Element.TheVariants.{Read, Past}
 use Rattle.header.specs.Header.{Item, item, ◌∷?◌, elements}
-use Rattle.header.specs.Reading.{first_element, wrong_seen, added, narrow_in, wide_in, concatenation_seen, command_seen, response_seen, collected, walked, told_walked, told_rest}
+use Rattle.header.specs.Reading.{element, first_element, wrong_seen, added, narrow_in, wide_in, concatenation_seen, command_seen, response_seen, collected, walked, told_walked, told_rest}
 use Rattle.header.specs.Laws.{elements_lone, elements_more, elements_none}
 use native.Mathlib.Numerals.{add-one, add-two}
 use mir.Syntax.{w8, w16, w64}
@@ -23,16 +24,13 @@ use borrow.Author.Rules.{rules}
 use Rattle.types.specs.Refusals.{Outcome, refused, gives}
 use Rattle.octets.specs.Octets.{number_of}
 use Rattle.header.specs.declared.Concatenation.{Concatenation}
-use Rattle.header.specs.declared.Element.TheVariants as element
-use Rattle.header.specs.declared.Walked.{Walked}
-use Rattle.header.specs.declared.Walked.TheVariants as whole
 
 -- ---- the elements from a place on: the first, and the rest
-abbrev pub and_then : List ℕ → Element → Option (List Item)
-and_then h Past = none
-and_then h (Read a s n next) = item a (take n (drop s h)) ∷? elements (drop next.at h)
+abbrev pub and_then : List ℕ → option.Option Element → Option (List Item)
+and_then h None = none
+and_then h (Some e) = item e.id (take e.len (drop e.start h)) ∷? elements (drop e.next.at h)
 
-then_cond : (h : List ℕ) (b : Bool) (e : Element) → and_then h (cond b e Past) ≡ cond b (and_then h e) none
+then_cond : (h : List ℕ) (b : Bool) (e : option.Option Element) → and_then h (cond b e None) ≡ cond b (and_then h e) none
 then_cond h true e = refl
 then_cond h false e = refl
 
@@ -49,7 +47,7 @@ pub elements_at : (h : List ℕ) (i : ℕ) → i < length h → elements (drop i
 elements_at h i l = first_rest h i (drop i h) refl (simp length-drop (omega arith))
 
 -- where an element that was read stands
-not_read : {a b n : ℕ} {next : Cursor} → Past ≡ Read a b n next → ⊥
+not_read : {x : Element} → ◌≡◌ {A = option.Option Element} None (Some x) → ⊥
 not_read e = let z : ◌≡◌ {A = ℕ} 0 1 = cc in omega arith
 
 pub record Stands (i b n at m : ℕ) : Type 0 where
@@ -57,15 +55,20 @@ pub record Stands (i b n at m : ℕ) : Type 0 where
   pub next : at ≡ i + 2 + n
   pub inside : 2 + n ≤ m
 
-pub read_place : (i : ℕ) (l : List ℕ) {a b n : ℕ} {next : Cursor} → first_element i l ≡ Read a b n next → Stands i b n next.at (length l)
+pub read_place : (i : ℕ) (l : List ℕ) {x : Element} → first_element i l ≡ Some x → Stands i x.start x.len x.next.at (length l)
 unfolding first_element
 read_place i [] e = absurd (not_read e)
-read_place i (x ∷ []) e = absurd (not_read e)
-read_place i (x ∷ m ∷ r) {a} {b} {n} {next} e = go (leb m (length r)) refl e
+read_place i (a ∷ []) e = absurd (not_read e)
+read_place i (a ∷ m ∷ r) {x} e = go (leb m (length r)) refl e
   where
-    go : (t : Bool) → leb m (length r) ≡ t → cond t (Read x (i + 2) m (record { at = i + 2 + m })) Past ≡ Read a b n next
-        → Stands i b n next.at (suc (suc (length r)))
-    go true q e = let same : m ≡ n = cc in record { start = cc; next = cc; inside = omega (arith, leb-true m (length r) q) }
+    go : (t : Bool) → leb m (length r) ≡ t → cond t (Some (element a (i + 2) m (record { at = i + 2 + m }))) None ≡ Some x
+        → Stands i x.start x.len x.next.at (suc (suc (length r)))
+    go true q e =
+        let same : ◌≡◌ {A = Element} (element a (i + 2) m (record { at = i + 2 + m })) x = cc in
+        let starts : i + 2 ≡ x.start = ap (λ y. y.start) same in
+        let lasts : m ≡ x.len = ap (λ y. y.len) same in
+        let ends : i + 2 + m ≡ x.next.at = ap (λ y. y.next.at) same in
+        record { start = sym starts; next = omega (arith, lasts, ends); inside = omega (arith, lasts, leb-true m (length r) q) }
     go false q e = absurd (not_read e)
 
 -- an octet fits every wider number
@@ -77,11 +80,11 @@ octet_fits_64 l i f = omega (arith, f i)
 
 -- ---- the element at a place, by the tests that `element` makes
 module _ (h : List ℕ) (i : ℕ) where
-  pub past_end : length h ≤ i → element.Past ≡ first_element i (drop i h)
+  pub past_end : length h ≤ i → None ≡ first_element i (drop i h)
   unfolding first_element
   past_end l = rw (drop_of_length-le h l)
 
-  pub past_lone : i < length h → length h ≤ i + 1 → element.Past ≡ first_element i (drop i h)
+  pub past_lone : i < length h → length h ≤ i + 1 → None ≡ first_element i (drop i h)
   unfolding first_element
   past_lone l m = let m' : length h ≤ suc i = omega arith in rw (drop-cons h i 0 l, drop_of_length-le h m')
 
@@ -89,11 +92,11 @@ module _ (h : List ℕ) (i : ℕ) where
   drop_two l = rw (add-one, add-two, drop-cons h i 0 (omega arith), drop-cons h (suc i) 0 (omega arith))
 
   pub read_whole : i + 1 < length h → get_or h (i + 1) 0 ≤ length h - (i + 2)
-      → element.Read (get_or h i 0) (i + 2) (get_or h (i + 1) 0) (record { at = i + 2 + get_or h (i + 1) 0 }) ≡ first_element i (drop i h)
+      → Some (element (get_or h i 0) (i + 2) (get_or h (i + 1) 0) (record { at = i + 2 + get_or h (i + 1) 0 })) ≡ first_element i (drop i h)
   unfolding first_element
   read_whole l m = rw (drop_two l, length-drop, le-leb _ _ m)
 
-  pub past_long : i + 1 < length h → length h - (i + 2) < get_or h (i + 1) 0 → element.Past ≡ first_element i (drop i h)
+  pub past_long : i + 1 < length h → length h - (i + 2) < get_or h (i + 1) 0 → None ≡ first_element i (drop i h)
   unfolding first_element
   past_long l m = rw (drop_two l, length-drop, lt-leb _ _ m)
 
@@ -143,34 +146,34 @@ collected_more : (s : Seen) (e : Item) (o : Option (List Item)) → collected (a
 collected_more s e none = refl
 collected_more s e (some es) = refl
 
-module _ (h : List ℕ) (i : ℕ) (r : Element) (l : i < length h) (rule : r ≡ first_element i (drop i h)) where
-  pub rest_past : (s : Seen) → r ≡ element.Past → refused 3 ≡ told_walked (walked h i s)
+module _ (h : List ℕ) (i : ℕ) (r : option.Option Element) (l : i < length h) (rule : r ≡ first_element i (drop i h)) where
+  pub rest_past : (s : Seen) → r ≡ None → refused 3 ≡ told_walked (walked h i s)
   rest_past s e = rw (elements_at h i l, ← rule, e)
 
-  module _ (a b n : ℕ) (next : Cursor) (found : r ≡ element.Read a b n next) where
-    place : Stands i b n next.at (length h - i)
+  module _ (x : Element) (found : r ≡ Some x) where
+    place : Stands i x.start x.len x.next.at (length h - i)
     place = rw length-drop at (read_place i (drop i h) (sym rule ∙ found))
 
-    own_length_lem : next.at - b ≡ n
+    own_length_lem : x.next.at - x.start ≡ x.len
     own_length_lem = omega (arith, place)
 
     -- the element's own octets end where the next one begins
-    pub own_start : b ≤ next.at
+    pub own_start : x.start ≤ x.next.at
     own_start = omega (arith, place)
 
-    pub own_end : next.at ≤ length h
+    pub own_end : x.next.at ≤ length h
     own_end = omega (arith, place)
 
-    one_more_lem : (s : Seen) → walked h next.at (added s (item a (take n (drop b h)))) ≡ walked h i s
-    one_more_lem s = rw (elements_at h i l, ← rule, found) (collected_more s (item a (take n (drop b h))) (elements (drop next.at h)))
+    one_more_lem : (s : Seen) → walked h x.next.at (added s (item x.id (take x.len (drop x.start h)))) ≡ walked h i s
+    one_more_lem s = rw (elements_at h i l, ← rule, found) (collected_more s (item x.id (take x.len (drop x.start h))) (elements (drop x.next.at h)))
 
-    pub rest_read : (s s' : Seen) (o : Outcome Seen) → s' ≡ added s (item a (take (next.at - b) (drop b h)))
-        → o ≡ told_walked (walked h next.at s') → o ≡ told_walked (walked h i s)
+    pub rest_read : (s s' : Seen) (o : Outcome Seen) → s' ≡ added s (item x.id (take (x.next.at - x.start) (drop x.start h)))
+        → o ≡ told_walked (walked h x.next.at s') → o ≡ told_walked (walked h i s)
     rest_read s s' o e w =
-        let same : walked h next.at s' ≡ walked h i s = rw (e, own_length_lem) (one_more_lem s) in
+        let same : walked h x.next.at s' ≡ walked h i s = rw (e, own_length_lem) (one_more_lem s) in
         w ∙ ap told_walked same
 
-    pub step_falls : (t : ℕ) → length h - i ≡ t → length h - next.at < t
+    pub step_falls : (t : ℕ) → length h - i ≡ t → length h - x.next.at < t
     step_falls t e = omega (arith, place)
 
 -- ---- what was seen is taken up, has one element more, and is laid down
@@ -178,21 +181,21 @@ pub laid_more : (laid more seen s : Seen) (e : Item) → laid ≡ more → more 
 laid_more laid more seen s e down plus up = down ∙ plus ∙ ap (λ x. added x e) up
 
 -- ---- the answer of `walk`, read back from the number
-back_past : (w : Walked) (n : ℕ) → refused n ≡ told_walked w → whole.Past ≡ w
-back_past whole.Past n e = refl
-back_past (whole.Header s) n e = let z : ◌≡◌ {A = ℕ} 0 1 = cc in absurd (omega arith)
+back_past : (w : option.Option Seen) (n : ℕ) → refused n ≡ told_walked w → None ≡ w
+back_past None n e = refl
+back_past (Some s) n e = let z : ◌≡◌ {A = ℕ} 0 1 = cc in absurd (omega arith)
 
-back_header : (w : Walked) (s : Seen) → gives s ≡ told_walked w → whole.Header s ≡ w
-back_header whole.Past s e = let z : ◌≡◌ {A = ℕ} 0 1 = cc in absurd (omega arith)
-back_header (whole.Header t) s e = cc
+back_header : (w : option.Option Seen) (s : Seen) → gives s ≡ told_walked w → Some s ≡ w
+back_header None s e = let z : ◌≡◌ {A = ℕ} 0 1 = cc in absurd (omega arith)
+back_header (Some t) s e = cc
 
 module _ (h : List ℕ) (i n : ℕ) (after before s : Seen) (rest : told_rest n after ≡ told_walked (walked h i before)) (laid : before ≡ s) where
-  pub answer_past : (n ≡ 0 → ⊥) → whole.Past ≡ walked h i s
+  pub answer_past : (n ≡ 0 → ⊥) → None ≡ walked h i s
   answer_past other =
       let number : refused n ≡ told_rest n after = rw (ne_eqb _ _ other) in
       back_past _ n (number ∙ rest) ∙ ap (walked h i) laid
 
-  pub answer_header : (seen : Seen) → n ≡ 0 → seen ≡ after → whole.Header seen ≡ walked h i s
+  pub answer_header : (seen : Seen) → n ≡ 0 → seen ≡ after → Some seen ≡ walked h i s
   answer_header seen is_zero up =
       let number : gives seen ≡ told_rest n after = rw (is_zero, up) in
       back_header _ seen (number ∙ rest) ∙ ap (walked h i) laid

@@ -1,5 +1,7 @@
 -- How a header is read, one element after the other: what the walk's own contracts cite. `proofs/SeenLaws.antt` shows that it comes to the
 -- rules of `Header.antt`.
+use Rattle.std.specs.declared.option.Option as option
+use Rattle.std.specs.declared.option.Option.TheVariants.{Some, None}
 use Rattle.std.specs.Prelude.{ℕ, ◌+◌, List, [], ◌∷◌, Bool, true, false, cond, ◌||◌, length, get_or, drop, eqb, leb}
 use Rattle.std.proofs.Math.Option.{Option, none, some}
 use Rattle.types.specs.Refusals.{Outcome, refused, gives}
@@ -7,16 +9,18 @@ use Rattle.octets.specs.Octets.{number_of}
 use Rattle.header.specs.declared.Concatenation.{Concatenation}
 use Rattle.header.specs.declared.Seen.{Seen}
 use Rattle.header.specs.declared.Element.{Element}
-use Rattle.header.specs.declared.Element.TheVariants as element
-use Rattle.header.specs.declared.Walked.{Walked}
-use Rattle.header.specs.declared.Walked.TheVariants as whole
+use Rattle.header.specs.declared.Cursor.{Cursor}
 use Rattle.header.specs.Header.{Item, elements, has, is_concatenation, wrong_length, concatenation_in, no_concatenation}
 
+-- an element by its fields
+abbrev pub element : (id start len : ℕ) → Cursor → Element
+element id start len next = record { id = id; start = start; len = len; next = next }
+
 -- the element that stands first in octets that begin at the place i
-unfoldable pub first_element : ℕ → List ℕ → Element
-first_element i [] = element.Past
-first_element i (a ∷ []) = element.Past
-first_element i (a ∷ n ∷ r) = cond (leb n (length r)) (element.Read a (i + 2) n (record { at = i + 2 + n })) element.Past
+unfoldable pub first_element : ℕ → List ℕ → option.Option Element
+first_element i [] = None
+first_element i (a ∷ []) = None
+first_element i (a ∷ n ∷ r) = cond (leb n (length r)) (Some (element a (i + 2) n (record { at = i + 2 + n }))) None
 
 -- the two forms of a concatenation element
 abbrev pub narrow_in : List ℕ → Concatenation
@@ -62,18 +66,18 @@ seen_after s [] = s
 seen_after s (e ∷ es) = seen_after (added s e) es
 
 -- what the elements from a place on come to, on top of what was seen
-abbrev pub collected : Seen → Option (List Item) → Walked
-collected s none = whole.Past
-collected s (some es) = whole.Header (seen_after s es)
+abbrev pub collected : Seen → Option (List Item) → option.Option Seen
+collected s none = None
+collected s (some es) = Some (seen_after s es)
 
-abbrev pub walked : List ℕ → ℕ → Seen → Walked
+abbrev pub walked : List ℕ → ℕ → Seen → option.Option Seen
 walked h at s = collected s (elements (drop at h))
 
 -- ---- the walk's answer in 01's words
 -- "Once one element cannot be read, the whole header is refused": 3, or else what its elements say together.
-abbrev pub told_walked : Walked → Outcome Seen
-told_walked whole.Past = refused 3
-told_walked (whole.Header s) = gives s
+abbrev pub told_walked : option.Option Seen → Outcome Seen
+told_walked None = refused 3
+told_walked (Some s) = gives s
 
 -- What was seen lies in three flags, three octets and a number while the header is read.
 abbrev pub seen_in : List Bool → List ℕ → ℕ → Seen

@@ -31,53 +31,40 @@ pub struct Cursor {
     pub at: usize,
 }
 
-// What stands at a reading position.
+// A whole element that stands at a reading position: its identifier, where its octets start and how many they are; next is past it.
 #[derive(Clone, Copy)]
-pub enum Element {
-    // A whole element: its identifier, where its octets start and how many they are; next is past it.
-    Read {
-        id: u8,
-        start: usize,
-        len: usize,
-        next: Cursor,
-    },
-    // A lone identifier, or octets that run past the header's end.
-    Past,
-}
-
-// What a header comes to.
-#[derive(Clone, Copy)]
-pub enum Walked {
-    Header(Seen),
-    Past,
+pub struct Element {
+    pub id: u8,
+    pub start: usize,
+    pub len: usize,
+    pub next: Cursor,
 }
 
 impl Cursor {
-    // The element at the reading position, and the position behind it. A lone identifier runs past the end as an element does whose octets are
-    // not all there.
-    pub fn element(self, h: &[u8]) -> Element
+    // The element at the reading position; none if it runs past the end, as a lone identifier does and an element whose octets are not all there.
+    pub fn element(self, h: &[u8]) -> Option<Element>
         ensures { result ≡ first_element self.at (drop self.at h.now) }
     {
         let at = self.at;
         if h.len() <= at {
-            return Element::Past;
+            return None;
         }
         let second = at + 1;
         if h.len() <= second {
-            return Element::Past;
+            return None;
         }
         let id = h[at];
         let len = h[second] as usize;
         let start = at + 2;
         if h.len() - start < len {
-            return Element::Past;
+            return None;
         }
-        Element::Read {
+        Some(Element {
             id,
             start,
             len,
             next: Cursor { at: start + len },
-        }
+        })
     }
 }
 
@@ -256,12 +243,14 @@ fn read_rest(
     if header.len() <= at {
         return 0;
     }
-    let Element::Read {
-        id,
-        start,
-        next,
-        ..
-    } = cursor.element(header)
+    let Some(
+        Element {
+            id,
+            start,
+            next,
+            ..
+        },
+    ) = cursor.element(header)
     else {
         return 3;
     };
@@ -271,7 +260,7 @@ fn read_rest(
 }
 
 // The elements from the cursor on: what they say together, on top of what was seen before.
-pub fn walk(h: &[u8], cursor: Cursor, seen: Seen) -> Walked
+pub fn walk(h: &[u8], cursor: Cursor, seen: Seen) -> Option<Seen>
     ensures { result ≡ walked h.now cursor.at seen }
 {
     let mut flags = [false; 3];
@@ -280,7 +269,7 @@ pub fn walk(h: &[u8], cursor: Cursor, seen: Seen) -> Walked
     lay(seen, &mut flags, &mut octets, &mut reference);
     let refusal = read_rest(&h, cursor, &mut flags, &mut octets, &mut reference);
     if refusal != 0 {
-        return Walked::Past;
+        return None;
     }
-    Walked::Header(seen_in(&flags, &octets, reference))
+    Some(seen_in(&flags, &octets, reference))
 }

@@ -1,11 +1,10 @@
+use Rattle.capture.specs.Captures.{leading, next_run}
 use Rattle.capture.proofs.Steps.{steps}
 use Rattle.capture.proofs.behind_records.Goals as goal
 
-pub returns-then-n-eq0 : goal.returns-then-n-eq0
-returns-then-n-eq0 c = search steps
-
-pub loop-at-preserved : goal.loop-at-preserved
-loop-at-preserved c = search steps
+pub loop-n-preserved : goal.loop-n-preserved
+loop-n-preserved c = search steps
 
 pub returns : goal.returns
+unfolding next_run leading
 returns c = search steps

@@ -5,8 +5,8 @@ use Prim.Native.Nat.{◌-◌, ◌≤◌}
 use mathlib.Core.Path.{◌≡◌}
 use Rattle.capture.proofs.behind_records.Given as goal
 
-abbrev pub invariant-loop-at : goal.invariant-loop-at
-invariant-loop-at l = (next_run l.file l.from ≡ next_run l.file l.at) × (l.at ≤ length l.file)
+abbrev pub invariant-loop-n : goal.invariant-loop-n
+invariant-loop-n l = (next_run l.file l.from ≡ next_run l.file l.at) × (l.at ≤ length l.file)
 
-abbrev pub decreases-loop-at : goal.decreases-loop-at
-decreases-loop-at l = length l.file - l.at
+abbrev pub decreases-loop-n : goal.decreases-loop-n
+decreases-loop-n l = length l.file - l.at

@@ -1,8 +1,8 @@
 use Rattle.capture.proofs.Steps.{steps}
 use Rattle.capture.proofs.behind_skipped.Goals as goal
 
-pub returns-then-n-gt0 : goal.returns-then-n-gt0
-returns-then-n-gt0 c = search steps
+pub returns-then-is_some : goal.returns-then-is_some
+returns-then-is_some c = search steps
 
 pub loop-at-preserved : goal.loop-at-preserved
 loop-at-preserved c = search steps

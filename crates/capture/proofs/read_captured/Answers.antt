@@ -2,11 +2,11 @@
 use Rattle.capture.proofs.Steps.{steps}
 use Rattle.capture.proofs.read_captured.Goals as goal
 
-pub returns-then-sound_at-octets : goal.returns-then-sound_at-octets
-returns-then-sound_at-octets c = search steps
+pub returns-in_err-sound_record : goal.returns-in_err-sound_record
+returns-in_err-sound_record c = search steps
 
-pub returns-then-octets-eq0 : goal.returns-then-octets-eq0
-returns-then-octets-eq0 c = search steps
+pub returns-then-branch-octets : goal.returns-then-branch-octets
+returns-then-branch-octets c = search steps
 
 pub returns-then-octets-eq1 : goal.returns-then-octets-eq1
 returns-then-octets-eq1 c = search steps
