@@ -1,16 +1,17 @@
 -- What the proofs of `arrival` cite: one law for each return and call, over plain variables.
+use Rattle.std.specs.declared.result.Result.{Result}
+use Rattle.std.specs.declared.option.Option as option
+use Rattle.std.specs.declared.option.Option.TheVariants.{Some, None}
+use Rattle.types.specs.declared.Refusal.{Refusal}
 use Prim.Native.Nat.{ℕ, ◌+◌, ◌-◌, ◌/◌, ◌%◌, ◌≤◌, ◌<◌}
 use mathlib.Core.Path.{◌≡◌, refl, sym, ap, ◌∙◌}
-use mathlib.Core.List.{List, []}
+use mathlib.Core.List.{List}
 use mathlib.Core.Bool.{Bool, true, false, not, ◌||◌, beq}
 use mathlib.Core.Option.{Option, none, some}
 use native.Mathlib.Omega.{arith}
 use native.Mathlib.Nat.{add-sub_cancel}
-use lib.ListN.{length, get_or, take, drop, length-drop, drop_of_length-le}
-use lib.Seq.{take_all}
+use lib.ListN.{length, get_or, take, drop}
 use lib.Dec.{eqb, leb-zero}
-use mir.Syntax.{w8, w16, w64}
-use mir.Val.{Fits}
 use borrow.Author.Rules.{rules}
 use borrow.Author.Tests.{le-leb, lt-leb, lt-ltb, le-ltb, eq-eqb, ne_eqb}
 use Rattle.types.specs.declared.Kind.{Kind}
@@ -18,8 +19,6 @@ use Rattle.types.specs.Refusals.{refused, gives}
 use Rattle.packet.specs.Packets.{differ}
 use Rattle.header.specs.declared.Concatenation.{Concatenation}
 use Rattle.header.specs.declared.Seen.{Seen}
-use Rattle.header.specs.declared.Walked.{Walked}
-use Rattle.header.specs.declared.Walked.TheVariants as whole
 use Rattle.types.specs.declared.Arrival.{Arrival}
 use Rattle.types.specs.declared.Key.{Key}
 use Rattle.types.specs.declared.SerialNumber.{SerialNumber}
@@ -28,7 +27,6 @@ use Rattle.arrival.specs.Arrivals.{single, part, told_arrival}
 use Rattle.header.specs.Header.{Item, elements, wrong_length, any_of, summary}
 use Rattle.arrival.specs.Message.{alone, opens, own, foreign, misplaced, message_key, judged, where_read, read_message, header_octets, after_header}
 use Rattle.arrival.specs.Page.{serial_in, identifier_in, parameter_in, one_of_one, page_total, page_number, page_key, no_pages, identifier_in_range, misdirected, read_page}
-use Rattle.arrival.specs.Keys.{room}
 use Rattle.header.specs.Reading.{nothing_seen, seen_after, collected, walked}
 use Rattle.header.proofs.SeenLaws.{after_wrong, seen_summary}
 
@@ -40,13 +38,6 @@ judged_all k sender start es = go (any_of wrong_length es) refl
     go : (b : Bool) → any_of wrong_length es ≡ b → judged k sender start (seen_after nothing_seen es) ≡ judged k sender start (summary es)
     go true w = rw (after_wrong nothing_seen es w, w)
     go false w = ap (judged k sender start) (seen_summary es w)
-
--- an octet fits every wider number
-pub octet_fits_16 : (l : List ℕ) (i : ℕ) → ((k : ℕ) → Fits w8 (get_or l k 0)) → Fits w16 (get_or l i 0)
-octet_fits_16 l i f = omega (arith, f i)
-
-pub octet_fits_64 : (l : List ℕ) (i : ℕ) → ((k : ℕ) → Fits w8 (get_or l k 0)) → Fits w64 (get_or l i 0)
-octet_fits_64 l i f = omega (arith, f i)
 
 -- ---- judging
 pub opens_told : (b : Bool) (c : Concatenation) → b ≡ alone c → b || eqb c.number 1 ≡ opens c
@@ -97,35 +88,39 @@ module _ (k : Kind) (sender : ℕ) (ud : List ℕ) where
     unfolding read_message
     message_empty e = rw (e, leb-zero)
 
-    pub message_long : length ud ≤ get_or ud 0 0 → refused 3 ≡ read_message k sender ud
-    unfolding read_message
-    message_long l = rw (le-ltb _ _ fits, le-leb _ _ l)
-
-    module _ (inside : get_or ud 0 0 < length ud) (s : Seen) (fresh : s ≡ nothing_seen) (w : Walked)
-        (rule : w ≡ walked (take (get_or ud 0 0 + 1 - 1) (drop 1 ud)) 0 s) where
-      told_header : w ≡ collected nothing_seen (elements (header_octets ud))
-      told_header = rule ∙ rw (fresh, add-sub_cancel)
-
-      pub message_past : w ≡ whole.Past → refused 3 ≡ read_message k sender ud
+    module _ (n : ℕ) (counted : n ≡ get_or ud 0 0) where
+      pub message_long : length ud ≤ n → refused 3 ≡ read_message k sender ud
       unfolding read_message
-      message_past e = rw (le-ltb _ _ fits, lt-leb _ _ inside) (go (elements (header_octets ud)) (sym told_header ∙ e))
-        where
-          go : (o : Option (List Item)) → collected nothing_seen o ≡ whole.Past
-              → refused 3 ≡ where_read (λ es. judged k sender (after_header ud) (summary es)) o
-          go none e = refl
-          go (some es) e = let z : ◌≡◌ {A = ℕ} 0 1 = cc in absurd (omega arith)
+      message_long l = rw (le-ltb _ _ fits, le-leb (length ud) (get_or ud 0 0) (omega arith))
 
-      pub message_judged : (seen : Seen) → w ≡ whole.Header seen → (r : Arrival) → told_arrival r ≡ judged k sender (get_or ud 0 0 + 1) seen
-          → told_arrival r ≡ read_message k sender ud
-      unfolding read_message
-      message_judged seen e r f = rw (le-ltb _ _ fits, lt-leb _ _ inside) (f ∙ go (elements (header_octets ud)) (sym told_header ∙ e))
-        where
-          go : (o : Option (List Item)) → collected nothing_seen o ≡ whole.Header seen
-              → judged k sender (after_header ud) seen ≡ where_read (λ es. judged k sender (after_header ud) (summary es)) o
-          go none e = let z : ◌≡◌ {A = ℕ} 0 1 = cc in absurd (omega arith)
-          go (some es) e =
-              let same : seen ≡ seen_after nothing_seen es = cc in
-              ap (judged k sender (after_header ud)) same ∙ judged_all k sender (after_header ud) es
+      module _ (inside : n < length ud) (s : Seen) (fresh : s ≡ nothing_seen) (w : option.Option Seen) (rule : w ≡ walked (take (n + 1 - 1) (drop 1 ud)) 0 s) where
+        longer : get_or ud 0 0 < length ud
+        longer = omega arith
+
+        told_header : w ≡ collected nothing_seen (elements (header_octets ud))
+        told_header = rule ∙ rw (fresh, add-sub_cancel, counted)
+
+        pub message_past : w ≡ None → refused 3 ≡ read_message k sender ud
+        unfolding read_message
+        message_past e = rw (le-ltb _ _ fits, lt-leb _ _ longer) (go (elements (header_octets ud)) (sym told_header ∙ e))
+          where
+            go : (o : Option (List Item)) → collected nothing_seen o ≡ None
+                → refused 3 ≡ where_read (λ es. judged k sender (after_header ud) (summary es)) o
+            go none e = refl
+            go (some es) e = let z : ◌≡◌ {A = ℕ} 0 1 = cc in absurd (omega arith)
+
+        pub message_judged : (seen : Seen) → w ≡ Some seen → (r : Result Arrival Refusal) → told_arrival r ≡ judged k sender (n + 1) seen
+            → told_arrival r ≡ read_message k sender ud
+        unfolding read_message
+        message_judged seen e r f =
+            rw (le-ltb _ _ fits, lt-leb _ _ longer) (f ∙ rw counted (go (elements (header_octets ud)) (sym told_header ∙ e)))
+          where
+            go : (o : Option (List Item)) → collected nothing_seen o ≡ Some seen
+                → judged k sender (after_header ud) seen ≡ where_read (λ es. judged k sender (after_header ud) (summary es)) o
+            go none e = let z : ◌≡◌ {A = ℕ} 0 1 = cc in absurd (omega arith)
+            go (some es) e =
+                let same : seen ≡ seen_after nothing_seen es = cc in
+                ap (judged k sender (after_header ud)) same ∙ judged_all k sender (after_header ud) es
 
 -- ---- the page
 module _ (p : ℕ) (b : Bool) (rule : b ≡ one_of_one p) where
@@ -167,36 +162,8 @@ module _ (k : Kind) (page : List ℕ) where
       unfolding read_page
       page_part e o z g y f = rw (eq-eqb _ _ size, ← low, ← high, le-ltb _ _ l, ← read, ← rule, e, ne_eqb _ _ o, ← g, f)
 
--- ---- the part's own octets
-module _ (o : List ℕ) (start : ℕ) where
-  pub own_none : length o < start → [] ≡ drop start o
-  own_none l = let m : length o ≤ start = omega arith in sym (drop_of_length-le o m)
-
-  pub own_rest : take (length o - start) (drop start o) ≡ drop start o
-  own_rest = take_all (length o - start) (drop start o) (simp length-drop (omega arith))
-
--- ---- the room of a part: by cases on the two tests that the rule makes
-module _ (w k : ℕ) where
-  pub wide_first : w ≡ 16 → k ≡ 1 → 131 ≡ room w k
-  wide_first p q = rw (eq-eqb w 16 p, eq-eqb k 1 q)
-
-  pub wide_later : w ≡ 16 → (k ≡ 1 → ⊥) → 133 ≡ room w k
-  wide_later p q = rw (eq-eqb w 16 p, ne_eqb k 1 q)
-
-  pub narrow_first : (w ≡ 16 → ⊥) → k ≡ 1 → 132 ≡ room w k
-  narrow_first p q = rw (ne_eqb w 16 p, eq-eqb k 1 q)
-
-  pub narrow_later : (w ≡ 16 → ⊥) → (k ≡ 1 → ⊥) → 134 ≡ room w k
-  narrow_later p q = rw (ne_eqb w 16 p, ne_eqb k 1 q)
-
 pub ruleset steps = (
   rules,
-  wide_first,
-  wide_later,
-  narrow_first,
-  narrow_later,
-  octet_fits_16,
-  octet_fits_64,
   opens_told,
   misplaced_told,
   judged_element,
@@ -219,6 +186,4 @@ pub ruleset steps = (
   page_misdirected,
   page_single,
   page_part,
-  own_none,
-  own_rest,
 )

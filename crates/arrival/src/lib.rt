@@ -10,8 +10,5 @@ pub mod page;
 pub fn own_octets(octets: &[u8], start: usize) -> &[u8]
     ensures { result.now ≡ drop start octets.now }
 {
-    if octets.len() < start {
-        return &octets[..0];
-    }
-    &octets[start..]
+    packet::behind::past(octets, start)
 }

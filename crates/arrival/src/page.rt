@@ -68,29 +68,29 @@ fn key_of(serial: SerialNumber, identifier: MessageIdentifier) -> Key
 }
 
 // What a page brings: its content begins behind the six octets of its header.
-pub fn read_page(kind: Kind, page: &[u8]) -> Arrival
+pub fn read_page(kind: Kind, page: &[u8]) -> Result<Arrival, Refusal>
     ensures { told_arrival result ≡ read_page kind page.now }
 {
     if page.len() != PAGE_OCTETS {
-        return Arrival::Refused(Refusal::InputLength);
+        return Err(Refusal::InputLength);
     }
     let parameter = page[5];
     let total = total_in(parameter);
     let number = number_in(parameter);
     if total < number {
-        return Arrival::Refused(Refusal::HeaderElement);
+        return Err(Refusal::HeaderElement);
     }
     let identifier = identifier_in(page);
     if is_misdirected(kind, identifier) {
-        return Arrival::Refused(Refusal::WrongIdentifier);
+        return Err(Refusal::WrongIdentifier);
     }
     if total == 1 {
-        return Arrival::Single { start: 6 };
+        return Ok(Arrival::Single { start: 6 });
     }
-    Arrival::Part {
+    Ok(Arrival::Part {
         key: key_of(serial_in(page), identifier),
         total,
         number,
         start: 6,
-    }
+    })
 }

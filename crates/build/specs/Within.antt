@@ -1,9 +1,10 @@
 -- What the functions of this crate cite of one another.
+use Rattle.std.specs.declared.result.Result.{Result}
+use Rattle.std.specs.declared.result.Result.TheVariants.{Ok, Err}
+use Rattle.types.specs.declared.Refusal.{Refusal}
 use Rattle.std.specs.Prelude.{ℕ, ◌-◌, Bool, false, not, ◌||◌, List, length, eqb, ltb}
 use Rattle.types.specs.declared.Kind.{Kind}
 use Rattle.types.specs.declared.Kind.TheVariants.{Command, Response}
-use Rattle.build.specs.declared.Ruling.{Ruling}
-use Rattle.build.specs.declared.Ruling.TheVariants as ruling
 use Rattle.types.specs.Refusals.{Outcome, refused, gives, refuse◌when◌otherwise◌, refusal_number, Lent, writes}
 use Rattle.packet.specs.Packets.{before, least, cipher_bit, differ, most_octets}
 
@@ -22,9 +23,9 @@ ruled wanted buffer against misfit unchecked over o =
     refuse 12 when over otherwise
     o
 
-abbrev pub told_ruling : Ruling → Outcome ℕ
-told_ruling ruling.Allowed = gives 0
-told_ruling (ruling.Refused r) = refused (refusal_number r)
+abbrev pub told_ruling : Result Unit Refusal → Outcome ℕ
+told_ruling (Ok tt) = gives 0
+told_ruling (Err r) = refused (refusal_number r)
 
 -- what building the packet p comes to, of three of the tests
 abbrev pub tried : Bool → Bool → Bool → List ℕ → List ℕ → Lent

@@ -9,7 +9,7 @@ ghost use Rattle.packet.specs.Told.{tar_octets, clear_octets, command_fixed, res
 ghost use Rattle.build.specs.Within.{against_octet, outside, told_ruling, ruled, tried};
 
 use packet::layout;
-use types::{Clear, Cntr, Kind, PACKET_OCTETS, Refusal, Tar, Written};
+use types::{Clear, Cntr, Kind, PACKET_OCTETS, Refusal, Tar};
 
 // Whether a body is plain or ciphered against SPI, whose first octet is the first behind the lengths of a command.
 fn against(kind: Kind, first: u8, ciphered: bool) -> bool
@@ -25,10 +25,7 @@ fn against(kind: Kind, first: u8, ciphered: bool) -> bool
 pub fn outside(kind: Kind, header: usize, opaque: usize) -> bool
     ensures { result ≡ outside kind header opaque }
 {
-    if header < layout::least(kind) {
-        return true;
-    }
-    (255 < header) | (opaque < header - layout::before(kind))
+    header < layout::least(kind) || 255 < header || opaque < header - layout::before(kind)
 }
 
 // Whether a head and two runs behind it are more than a packet may have. They are compared one after the other, since the sum of two lengths
@@ -37,17 +34,7 @@ fn over(head: usize, front: usize, back: usize) -> bool
     requires { head ≤ 16 }
     ensures { result ≡ ltb most_octets (head + (front + back)) }
 {
-    if PACKET_OCTETS - head < front {
-        return true;
-    }
-    PACKET_OCTETS - head - front < back
-}
-
-// Whether fields are written, or how they are refused.
-#[derive(Clone, Copy)]
-pub enum Ruling {
-    Allowed,
-    Refused(Refusal),
+    PACKET_OCTETS - head < front || PACKET_OCTETS - head - front < back
 }
 
 // The refusals of fields in their order, whatever carries them: a buffer of another length than is wanted, the body against SPI, the header
@@ -61,25 +48,25 @@ pub fn rule(
     misfit: bool,
     unchecked: bool,
     over: bool,
-) -> Ruling
+) -> Result<(), Refusal>
     ensures { told_ruling result ≡ ruled wanted buffer (against_octet kind first ciphered) misfit unchecked over (gives 0) }
 {
     if buffer != wanted {
-        return Ruling::Refused(Refusal::BufferOrRecord);
+        return Err(Refusal::BufferOrRecord);
     }
     if against(kind, first, ciphered) {
-        return Ruling::Refused(Refusal::CipherMismatch);
+        return Err(Refusal::CipherMismatch);
     }
     if misfit {
-        return Ruling::Refused(Refusal::PacketHeader);
+        return Err(Refusal::PacketHeader);
     }
     if unchecked {
-        return Ruling::Refused(Refusal::CheckMismatch);
+        return Err(Refusal::CheckMismatch);
     }
     if over {
-        return Ruling::Refused(Refusal::PacketTooLong);
+        return Err(Refusal::PacketTooLong);
     }
-    Ruling::Allowed
+    Ok(())
 }
 
 // Writes the two lengths of a packet of `size` octets over the first three octets of its head.
@@ -97,17 +84,11 @@ fn set_lengths(head: &mut [u8], size: usize, header: usize)
 fn fit(buffer: usize, at: usize, head: usize, front: usize, back: usize) -> bool
     ensures { result ≡ leb (at + (head + (front + back))) buffer }
 {
-    if buffer < at {
-        return false;
-    }
-    let room = buffer - at;
-    if room < head {
-        return false;
-    }
-    if room - head < front {
-        return false;
-    }
-    back <= room - head - front
+    buffer
+        .checked_sub(at)
+        .and_then(|room| room.checked_sub(head))
+        .and_then(|room| room.checked_sub(front))
+        .is_some_and(|room| back <= room)
 }
 
 // Puts three runs of octets that fit one behind the other into the buffer, from a place on.
@@ -156,12 +137,12 @@ fn build(
     front: &[u8],
     back: &[u8],
     out: &mut [u8],
-) -> Written
+) -> Result<usize, Refusal>
     requires { (4 ≤ length head.old) × (length head.old ≤ 16) }
     ensures { lent (told_written result) out.new ≡ tried (against_octet kind (get_or head.old 3 0) ciphered) misfit unchecked (packet_from (header % 256) (drop 3 head.old ++ (front.now ++ back.now))) out.old }
 {
     let long = over(head.len(), front.len(), back.len());
-    let ruled = rule(
+    rule(
         kind,
         PACKET_OCTETS,
         out.len(),
@@ -170,15 +151,18 @@ fn build(
         misfit,
         unchecked,
         long,
-    );
-    match ruled {
-        Ruling::Refused(refusal) => Written::Refused(refusal),
-        Ruling::Allowed => Written::Octets(write(header, head, front, back, out)),
-    }
+    )?;
+    Ok(write(header, head, front, back, out))
 }
 
 // Builds a plain body behind the fixed fields in the head.
-fn build_plain(kind: Kind, head: &mut [u8], check: &[u8], secured: &[u8], out: &mut [u8]) -> Written
+fn build_plain(
+    kind: Kind,
+    head: &mut [u8],
+    check: &[u8],
+    secured: &[u8],
+    out: &mut [u8],
+) -> Result<usize, Refusal>
     requires { length head.old ≡ 3 + least kind }
     ensures { lent (told_written result) out.new ≡ built kind (plain (drop 3 head.old) check.now secured.now) out.old }
 {
@@ -205,23 +189,13 @@ fn build_ciphered(
     header: u16,
     opaque: &[u8],
     out: &mut [u8],
-) -> Written
+) -> Result<usize, Refusal>
     requires { length head.old ≡ 3 + before kind }
     ensures { lent (told_written result) out.new ≡ built kind (ciphered (drop 3 head.old) header opaque.now) out.old }
 {
-    let size = header as usize;
+    let size = usize::from(header);
     let misfit = outside(kind, size, opaque.len());
-    build(
-        kind,
-        true,
-        misfit,
-        false,
-        size,
-        head,
-        opaque,
-        &opaque[0..0],
-        out,
-    )
+    build(kind, true, misfit, false, size, head, opaque, &[], out)
 }
 
 // Builds a plain command: refused 1, 10, 11, 15 or 12, or how many octets it has.
@@ -232,7 +206,7 @@ pub fn build_command(
     check: &[u8],
     data: &[u8],
     out: &mut [u8],
-) -> Written
+) -> Result<usize, Refusal>
     ensures { lent (told_written result) out.new ≡ built Kind.Command (plain (command_fixed clear cntr pcntr) check.now «data».now) out.old }
 {
     let spi = clear.spi;
@@ -245,7 +219,12 @@ pub fn build_command(
 }
 
 // Builds a ciphered command, whose header length counts in octets that are not seen here.
-pub fn build_ciphered_command(clear: Clear, header: u16, opaque: &[u8], out: &mut [u8]) -> Written
+pub fn build_ciphered_command(
+    clear: Clear,
+    header: u16,
+    opaque: &[u8],
+    out: &mut [u8],
+) -> Result<usize, Refusal>
     ensures { lent (told_written result) out.new ≡ built Kind.Command (ciphered (clear_octets clear) header opaque.now) out.old }
 {
     let spi = clear.spi;
@@ -265,7 +244,7 @@ pub fn build_response(
     check: &[u8],
     data: &[u8],
     out: &mut [u8],
-) -> Written
+) -> Result<usize, Refusal>
     ensures { lent (told_written result) out.new ≡ built Kind.Response (plain (response_fixed tar cntr pcntr status) check.now «data».now) out.old }
 {
     let mut head = [
@@ -275,7 +254,12 @@ pub fn build_response(
 }
 
 // Builds a ciphered response.
-pub fn build_ciphered_response(tar: Tar, header: u16, opaque: &[u8], out: &mut [u8]) -> Written
+pub fn build_ciphered_response(
+    tar: Tar,
+    header: u16,
+    opaque: &[u8],
+    out: &mut [u8],
+) -> Result<usize, Refusal>
     ensures { lent (told_written result) out.new ≡ built Kind.Response (ciphered (tar_octets tar) header opaque.now) out.old }
 {
     let mut head = [0, 0, 0, tar.0, tar.1, tar.2];

@@ -7,7 +7,7 @@ ghost use Rattle.types.specs.Refusals.{gives, lent, writes, told_written};
 ghost use Rattle.packet.specs.Packets.{least, ciphered_command, fixed_octets, runs_from, summed, checksummed};
 
 use packet::{behind, layout, read};
-use types::{CHECKSUM_OCTETS, Kind, PACKET_OCTETS, Refusal, Written};
+use types::{CHECKSUM_OCTETS, Kind, PACKET_OCTETS, Refusal};
 
 // Puts the octets that are before the packet of a kind, and says how many they are.
 fn fixed(kind: Kind, out: &mut [u8]) -> usize
@@ -36,7 +36,13 @@ fn put_run(run: &[u8], out: &mut [u8], at: usize) -> usize
 
 // All of them, of a packet that is plain and whose header is within what is behind its lengths, in two runs: the header before the check field,
 // and the data behind it. What is behind the lengths begins at the place `start`.
-fn collect(kind: Kind, start: usize, header: usize, packet: &[u8], out: &mut [u8]) -> Written
+fn collect(
+    kind: Kind,
+    start: usize,
+    header: usize,
+    packet: &[u8],
+    out: &mut [u8],
+) -> Result<usize, Refusal>
     requires kind_bound { (least kind ≤ header) × (start + header ≤ length packet.now) }
     requires packet_len_bound { (length packet.now ≤ 2142) × (length out.old ≡ 2145) }
     ensures { lent (told_written result) out.new ≡ writes (gives (fixed_octets kind ++ runs_from start kind header packet.now)) out.old }
@@ -45,7 +51,7 @@ fn collect(kind: Kind, start: usize, header: usize, packet: &[u8], out: &mut [u8
     let end = start + layout::least(kind);
     let at = put_run(octets::up_to(packet, end), out, lead);
     let from = start + header;
-    Written::Octets(put_run(&packet[from..], out, at))
+    Ok(put_run(&packet[from..], out, at))
 }
 
 // The checksum octets of what is behind the lengths of a packet, and of all before it, whatever carries it: refused 1, 9 if the header is not
@@ -57,51 +63,51 @@ pub fn checksum_from(
     header: usize,
     packet: &[u8],
     out: &mut [u8],
-) -> Written
+) -> Result<usize, Refusal>
     ensures { lent (told_written result) out.new ≡ summed kind ciphered start header packet.now out.old }
 {
     if out.len() != CHECKSUM_OCTETS {
-        return Written::Refused(Refusal::BufferOrRecord);
+        return Err(Refusal::BufferOrRecord);
     }
     let rest = behind::past(packet, start);
     if !behind::within(kind, header, rest) {
-        return Written::Refused(Refusal::MalformedPacket);
+        return Err(Refusal::MalformedPacket);
     }
     if PACKET_OCTETS < packet.len() {
-        return Written::Refused(Refusal::PacketTooLong);
+        return Err(Refusal::PacketTooLong);
     }
     if behind::against_check(kind, ciphered, header, rest) {
-        return Written::Refused(Refusal::CheckMismatch);
+        return Err(Refusal::CheckMismatch);
     }
     if ciphered {
-        return Written::Refused(Refusal::CipherMismatch);
+        return Err(Refusal::CipherMismatch);
     }
     collect(kind, start, header, packet, out)
 }
 
 // The checksum octets of a packet of a kind: refused 1, 9, 12, 15 or 10, or how many octets they are.
-fn checksum(kind: Kind, ciphered: bool, packet: &[u8], out: &mut [u8]) -> Written
+fn checksum(kind: Kind, ciphered: bool, packet: &[u8], out: &mut [u8]) -> Result<usize, Refusal>
     ensures { lent (told_written result) out.new ≡ checksummed kind ciphered packet.now out.old }
 {
     if out.len() != CHECKSUM_OCTETS {
-        return Written::Refused(Refusal::BufferOrRecord);
+        return Err(Refusal::BufferOrRecord);
     }
     if !read::well_formed(kind, packet) {
-        return Written::Refused(Refusal::MalformedPacket);
+        return Err(Refusal::MalformedPacket);
     }
-    let header = octets::wide(read::header_of(packet));
+    let header = usize::from(read::header_of(packet));
     checksum_from(kind, ciphered, 3, header, packet, out)
 }
 
 // The octets that the checksum of a command covers.
-pub fn command_checksum(packet: &[u8], out: &mut [u8]) -> Written
+pub fn command_checksum(packet: &[u8], out: &mut [u8]) -> Result<usize, Refusal>
     ensures { lent (told_written result) out.new ≡ checksummed Kind.Command (ciphered_command packet.now) packet.now out.old }
 {
     checksum(Kind::Command, read::ciphered_command(packet), packet, out)
 }
 
 // The octets that the checksum of a response covers, of which the caller says whether it is ciphered.
-pub fn response_checksum(packet: &[u8], ciphered: bool, out: &mut [u8]) -> Written
+pub fn response_checksum(packet: &[u8], ciphered: bool, out: &mut [u8]) -> Result<usize, Refusal>
     ensures { lent (told_written result) out.new ≡ checksummed Kind.Response ciphered packet.now out.old }
 {
     checksum(Kind::Response, ciphered, packet, out)

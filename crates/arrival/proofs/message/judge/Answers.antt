@@ -11,8 +11,8 @@ returns-then-is_misplaced c = search steps
 pub returns-then-is_alone : goal.returns-then-is_alone
 returns-then-is_alone c = search steps
 
-pub returns-then-c : goal.returns-then-c
-returns-then-c c = search steps
+pub returns-then-from-gt-PARTS : goal.returns-then-from-gt-PARTS
+returns-then-from-gt-PARTS c = search steps
 
 pub returns : goal.returns
 returns c = search steps

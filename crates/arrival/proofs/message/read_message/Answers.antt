@@ -1,5 +1,5 @@
 -- `read_message` meets its contract: the octets that are walked are those that UDHL counts, and what the walk saw is judged as the summary of
--- all the elements is (`Reading.antt`). Empty user data has a length that is not above any UDHL. Assumes nothing.
+-- all the elements is. Empty user data has a length that is not above any UDHL. Assumes nothing.
 use Rattle.arrival.proofs.Steps.{steps}
 use Rattle.arrival.proofs.message.read_message.Goals as goal
 
