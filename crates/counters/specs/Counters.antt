@@ -1,4 +1,7 @@
 -- Counter judgement (02, [8]; TS 102 225): CNTR of a plain command against the value that is stored for its TAR.
+use Rattle.std.specs.declared.result.Result.{Result}
+use Rattle.std.specs.declared.result.Result.TheVariants.{Ok, Err}
+use Rattle.types.specs.declared.Refusal.{Refusal}
 use Rattle.std.specs.Prelude.{ℕ, suc, ◌+◌, ◌/◌, ◌%◌, Bool, true, false, not, cond, ◌&&◌, ◌||◌, List, [], ◌∷◌, length, get_or, take, set, replicate, eqb, ltb, leb}
 use Rattle.octets.specs.Octets.{number_of}
 use Rattle.types.specs.declared.Kind.TheVariants.{Command}
@@ -6,8 +9,6 @@ use Rattle.types.specs.declared.Tar.{Tar}
 use Rattle.types.specs.declared.Cntr.{Cntr}
 use Rattle.types.specs.declared.CounterEntry.{CounterEntry}
 use Rattle.types.specs.declared.Counters.{Counters}
-use Rattle.types.specs.declared.Judgement.{Judgement}
-use Rattle.types.specs.declared.Judgement.TheVariants.{Status, Refused}
 use Rattle.types.specs.Refusals.{Outcome, refused, gives, refuse◌when◌otherwise◌, refusal_number}
 use Rattle.packet.specs.Packets.{ciphered_command, readable}
 
@@ -136,6 +137,6 @@ judge_counter c p =
     gives (judged_by c p)))
 
 -- what the enum of the answer says
-abbrev pub told_judgement : Judgement → Outcome ℕ
-told_judgement (Status s) = gives s
-told_judgement (Refused r) = refused (refusal_number r)
+abbrev pub told_judgement : Result ℕ Refusal → Outcome ℕ
+told_judgement (Ok s) = gives s
+told_judgement (Err r) = refused (refusal_number r)

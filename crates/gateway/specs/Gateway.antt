@@ -1,11 +1,13 @@
 -- Outstanding commands, server side (02, [13]): "up to 8 commands sent and unanswered, each by sender, TAR and CNTR".
+use Rattle.std.specs.declared.result.Result.{Result}
+use Rattle.std.specs.declared.result.Result.TheVariants.{Ok, Err}
+use Rattle.types.specs.declared.Refusal.{Refusal}
 use Rattle.std.specs.Prelude.{ℕ, ◌+◌, ◌-◌, Bool, false, not, cond, ◌&&◌, ◌||◌, List, [], ◌∷◌, ◌++◌, get_or, take, drop, replicate, eqb, ltb, leb}
 use Rattle.types.specs.declared.Kind.TheVariants.{Response}
 use Rattle.types.specs.declared.Tar.{Tar}
 use Rattle.types.specs.declared.Cntr.{Cntr}
 use Rattle.types.specs.declared.SentCommand.{SentCommand}
 use Rattle.types.specs.declared.Outstanding.{Outstanding}
-use Rattle.types.specs.declared.Sending as sending
 use Rattle.types.specs.declared.Closing as closing
 use Rattle.types.specs.Refusals.{Outcome, refused, gives, refuse◌when◌otherwise◌, refusal_number}
 use Rattle.packet.specs.Packets.{readable}
@@ -118,11 +120,11 @@ response_came t sender p =
     gives (fate_by (announces_another (status_of p)) t (answered_by sender p))))
 
 -- what the enums of the answers say
-abbrev pub told_sending : sending.Sending → Outcome Unit
-told_sending sending.TheVariants.Sent = gives tt
-told_sending (sending.TheVariants.Refused r) = refused (refusal_number r)
+abbrev pub told_sending : Result Unit Refusal → Outcome Unit
+told_sending (Ok tt) = gives tt
+told_sending (Err r) = refused (refusal_number r)
 
-abbrev pub told_closing : closing.Closing → Outcome Fate
-told_closing closing.TheVariants.Closed = gives fate_closed
-told_closing closing.TheVariants.Waiting = gives fate_waiting
-told_closing (closing.TheVariants.Refused r) = refused (refusal_number r)
+abbrev pub told_closing : Result closing.Closing Refusal → Outcome Fate
+told_closing (Ok closing.TheVariants.Closed) = gives fate_closed
+told_closing (Ok closing.TheVariants.Waiting) = gives fate_waiting
+told_closing (Err r) = refused (refusal_number r)

@@ -1,12 +1,7 @@
--- Inner steps of the table: where a command stands, and the entries with that place taken out. No call meant for users cites these.
-use Rattle.std.specs.Prelude.{ℕ, zero, suc, cond, List, [], ◌∷◌, ◌++◌, take, drop}
+-- An inner step of the table: the entries with a place taken out. No call meant for users cites it.
+use Rattle.std.specs.Prelude.{ℕ, zero, suc, List, [], ◌∷◌, ◌++◌, take, drop}
 use Rattle.types.specs.declared.SentCommand.{SentCommand}
-use Rattle.gateway.specs.Gateway.{same_command, zero_command}
-
--- how many entries stand before the first that equals the command; all of them, if none does
-unfoldable pub command_place : SentCommand → List SentCommand → ℕ
-command_place c [] = 0
-command_place c (e ∷ es) = cond (same_command e c) 0 (suc (command_place c es))
+use Rattle.gateway.specs.Gateway.{zero_command}
 
 -- of n entries in use, the one at place i taken out: those behind it move up, and the last place in use is zero
 unfoldable pub taken_out : ℕ → ℕ → List SentCommand → List SentCommand

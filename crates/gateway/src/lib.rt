@@ -1,15 +1,16 @@
 #![tactic(auto)]
 // Outstanding commands, server side (02, [13]): which commands were sent and wait for their response. The table goes in and comes back by value;
 // the server keeps it. Of the library below, the two calls see only what is promised.
-ghost use Rattle.std.specs.Prelude.{◌≡◌, not, ◌≤◌, ◌<◌, length};
-ghost use Rattle.types.specs.Refusals.{refused, gives, refuse◌when◌otherwise◌, refusal_number};
+ghost use Rattle.std.specs.Prelude.{◌≡◌, not, ◌≤◌, ◌<◌, length, position};
+ghost use Rattle.types.specs.Refusals.{gives, refuse◌when◌otherwise◌};
 ghost use Rattle.gateway.specs.Gateway.{sent_command, same_command, awaited, zero_command, no_commands, among, twice_among, unfit_table, with_command, answered_by, fate_by, settled, or_stays, command_sent, response_came, told_sending, told_closing};
-ghost use Rattle.gateway.specs.Places.{command_place, taken_out};
+ghost use Rattle.gateway.specs.Places.{taken_out};
 
+use packet::behind;
 use report::response_announces;
 use types::{
-    AfterResponse, AfterSending, Announcing, Closing, Cntr, OUTSTANDING_ENTRIES, Outstanding,
-    Refusal, Sending, SentCommand, Tar,
+    AfterResponse, AfterSending, Closing, Cntr, OUTSTANDING_ENTRIES, Outstanding, Refusal,
+    SentCommand, Tar,
 };
 
 // ---- the table
@@ -34,96 +35,61 @@ pub fn no_commands() -> Outstanding
     }
 }
 
-// Whether two commands are equal in sender, TAR and CNTR.
-fn same_command(a: SentCommand, b: SentCommand) -> bool
-    ensures { result ≡ same_command a b }
+// The entries in use.
+fn awaited(outstanding: &Outstanding) -> &[SentCommand]
+    requires { outstanding.now.count ≤ 8 }
+    ensures { result.now ≡ awaited outstanding.now }
 {
-    let t = a.tar;
-    let u = b.tar;
-    let m = a.cntr;
-    let n = b.cntr;
-    (a.sender == b.sender)
-        & ((t.0 == u.0) & (t.1 == u.1) & (t.2 == u.2))
-        & ((m.0 == n.0) & (m.1 == n.1) & (m.2 == n.2) & (m.3 == n.3) & (m.4 == n.4))
+    &outstanding.entries[..outstanding.count as usize]
 }
 
-// The place of a command among the entries in use; behind them if it is not there.
-fn place_of(outstanding: Outstanding, command: SentCommand) -> usize
-    requires { outstanding.count ≤ 8 }
-    ensures { (result ≡ command_place command (awaited outstanding)) × (result ≤ outstanding.count) }
+// The place of the first entry that equals a command, if one does.
+fn place_of(entries: &[SentCommand], command: SentCommand) -> Option<usize>
+    ensures { result ≡ position (λ e. same_command e command) entries.now }
 {
-    let entries = outstanding.entries;
-    let end = outstanding.count as usize;
-    let mut i = 0;
-    while i < end {
-        if same_command(entries[i], command) {
-            return i;
-        }
-        i = i + 1;
-    }
-    i
+    entries.iter().position(|entry| *entry == command)
 }
 
-// Whether two of the entries in use are equal. The pairs are gone through in one loop: a function for a row of them would get a copy of the table
-// at each turn.
-fn sent_twice(outstanding: Outstanding) -> bool
-    requires { outstanding.count ≤ 8 }
-    ensures { result ≡ twice_among (awaited outstanding) }
+// Whether two of the entries are equal.
+fn sent_twice(entries: &[SentCommand]) -> bool
+    ensures { result ≡ twice_among entries.now }
 {
-    let entries = outstanding.entries;
-    let end = outstanding.count as usize;
-    let mut i = 0;
-    let mut j = 1;
-    while i < end {
-        if j < end {
-            if same_command(entries[j], entries[i]) {
-                return true;
-            }
-            j = j + 1;
-        } else {
-            i = i + 1;
-            j = i + 1;
+    let mut rest = entries;
+    while let Some((entry, others)) = rest.split_first() {
+        if place_of(others, *entry).is_some() {
+            return true;
         }
+        rest = others;
     }
     false
 }
 
 // Whether a table is refused.
-fn unfit(outstanding: Outstanding) -> bool
-    ensures { result ≡ unfit_table outstanding }
+fn unfit(outstanding: &Outstanding) -> bool
+    ensures { result ≡ unfit_table outstanding.now }
 {
-    if 8 < outstanding.count {
-        return true;
-    }
-    sent_twice(outstanding)
+    OUTSTANDING_ENTRIES < outstanding.count as usize || sent_twice(awaited(outstanding))
 }
 
-// The table with a command more.
-fn with_command(mut outstanding: Outstanding, command: SentCommand) -> Outstanding
-    requires { outstanding.count < 8 }
-    ensures { result ≡ with_command outstanding command }
+// Puts a command more into the table.
+fn put_in(outstanding: &mut Outstanding, command: SentCommand)
+    requires { outstanding.old.count < 8 }
+    ensures { outstanding.new ≡ with_command outstanding.old command }
 {
     outstanding.entries[outstanding.count as usize] = command;
-    outstanding.count = outstanding.count + 1;
-    outstanding
+    outstanding.count += 1;
 }
 
-// The first entries without the one at a place: those behind it move up, and the last of them is zero.
-fn taken_out(
-    mut entries: [SentCommand; OUTSTANDING_ENTRIES],
-    at: usize,
-    end: usize,
-) -> [SentCommand; OUTSTANDING_ENTRIES]
-    requires { (at < end) × (end ≤ 8) }
-    ensures { result ≡ taken_out at end entries }
+// Takes the entry at a place out of the first ones: those behind it move up, and the last of them is zero.
+// The entries move one by one, since a slice has no `copy_within` here.
+fn take_out(entries: &mut [SentCommand], at: usize, end: usize)
+    requires { (at < end) × (end ≤ length entries.old) }
+    ensures { entries.new ≡ taken_out at end entries.old }
 {
-    let mut i = at;
-    while i + 1 < end {
+    for i in at..end - 1 {
         entries[i] = entries[i + 1];
-        i = i + 1;
     }
-    entries[i] = zero();
-    entries
+    entries[end - 1] = zero();
 }
 
 // ---- the response
@@ -133,95 +99,81 @@ fn answered_by(sender: u32, response: &[u8]) -> SentCommand
     ensures { result ≡ answered_by sender response.now }
 {
     SentCommand {
-        sender: sender,
-        tar: Tar(response[3], response[4], response[5]),
-        cntr: Cntr(
-            response[6],
-            response[7],
-            response[8],
-            response[9],
-            response[10],
-        ),
+        sender,
+        tar: behind::tar_at(response, 3),
+        cntr: behind::cntr_at(response, 6),
     }
 }
 
-// A table with an answer to a response.
-fn answered(outstanding: Outstanding, answer: Closing) -> AfterResponse
-    ensures { settled (told_closing result.answer) result.outstanding ≡ settled (told_closing answer) outstanding }
+// The answer of a response that can be read, against a table that is not refused; `announces` says whether another follows it.
+fn matched(
+    outstanding: &mut Outstanding,
+    announces: bool,
+    command: SentCommand,
+) -> Result<Closing, Refusal>
+    requires { outstanding.old.count ≤ 8 }
+    ensures { settled (told_closing result) outstanding.new ≡ or_stays outstanding.old (refuse 23 when not (among command (awaited outstanding.old)) otherwise gives (fate_by announces outstanding.old command)) }
 {
-    AfterResponse {
+    let Some(at) = place_of(awaited(outstanding), command) else {
+        return Err(Refusal::Unmatched);
+    };
+    if announces {
+        return Ok(Closing::Waiting);
+    }
+    let end = outstanding.count as usize;
+    take_out(&mut outstanding.entries, at, end);
+    outstanding.count -= 1;
+    Ok(Closing::Closed)
+}
+
+// ---- the calls
+// The answer to a command that was sent, in the order of the refusals. A refusal leaves the table as it was.
+fn sent(outstanding: &mut Outstanding, command: SentCommand) -> Result<(), Refusal>
+    ensures { settled (told_sending result) outstanding.new ≡ command_sent outstanding.old command }
+{
+    if unfit(outstanding) {
+        return Err(Refusal::BufferOrRecord);
+    }
+    if place_of(awaited(outstanding), command).is_some() {
+        return Err(Refusal::AlreadySent);
+    }
+    if OUTSTANDING_ENTRIES <= outstanding.count as usize {
+        return Err(Refusal::TableFull);
+    }
+    put_in(outstanding, command);
+    Ok(())
+}
+
+// Notes that a command was sent: the table has it afterwards, or refusal 1, 22 or 21.
+pub fn command_sent(mut outstanding: Outstanding, sender: u32, tar: Tar, cntr: Cntr) -> AfterSending
+    ensures { settled (told_sending result.answer) result.outstanding ≡ command_sent outstanding (sent_command sender tar cntr) }
+{
+    let answer = sent(&mut outstanding, SentCommand { sender, tar, cntr });
+    AfterSending {
         answer,
         outstanding,
     }
 }
 
-// The answer of a response that can be read, against a table that is not refused; `announces` says whether another follows it.
-fn matched(outstanding: Outstanding, announces: bool, command: SentCommand) -> AfterResponse
-    requires { outstanding.count ≤ 8 }
-    ensures { settled (told_closing result.answer) result.outstanding ≡ or_stays outstanding (refuse 23 when not (among command (awaited outstanding)) otherwise gives (fate_by announces outstanding command)) }
-{
-    let end = outstanding.count as usize;
-    let at = place_of(outstanding, command);
-    if end <= at {
-        return answered(outstanding, Closing::Refused(Refusal::Unmatched));
-    }
-    if announces {
-        return answered(outstanding, Closing::Waiting);
-    }
-    let entries = outstanding.entries;
-    AfterResponse {
-        answer: Closing::Closed,
-        outstanding: Outstanding {
-            count: outstanding.count - 1,
-            entries: taken_out(entries, at, end),
-        },
-    }
-}
-
-// ---- the calls
-// A table that a command was not put into.
-fn not_sent(outstanding: Outstanding, why: Refusal) -> AfterSending
-    ensures { settled (told_sending result.answer) result.outstanding ≡ settled (refused (refusal_number why)) outstanding }
-{
-    AfterSending {
-        answer: Sending::Refused(why),
-        outstanding,
-    }
-}
-
-// Notes that a command was sent: the table has it afterwards, or refusal 1, 22 or 21.
-pub fn command_sent(outstanding: Outstanding, sender: u32, tar: Tar, cntr: Cntr) -> AfterSending
-    ensures { settled (told_sending result.answer) result.outstanding ≡ command_sent outstanding (sent_command sender tar cntr) }
+// The answer to a response that came, in the order of the refusals. A refusal leaves the table as it was.
+fn came(outstanding: &mut Outstanding, sender: u32, response: &[u8]) -> Result<Closing, Refusal>
+    ensures { settled (told_closing result) outstanding.new ≡ response_came outstanding.old sender response.now }
 {
     if unfit(outstanding) {
-        return not_sent(outstanding, Refusal::BufferOrRecord);
+        return Err(Refusal::BufferOrRecord);
     }
-    let command = SentCommand { sender, tar, cntr };
-    let end = outstanding.count as usize;
-    let at = place_of(outstanding, command);
-    if at < end {
-        return not_sent(outstanding, Refusal::AlreadySent);
-    }
-    if OUTSTANDING_ENTRIES <= end {
-        return not_sent(outstanding, Refusal::TableFull);
-    }
-    AfterSending {
-        answer: Sending::Sent,
-        outstanding: with_command(outstanding, command),
-    }
+    let announces = response_announces(response)?;
+    matched(outstanding, announces, answered_by(sender, response))
 }
 
 // Takes note of a plain response from a sender: it closes the command that it answers, or says that another response follows and leaves the
 // command waiting, or is refused 1, 9, 12 or 23. A ciphered response is taken for plain.
-pub fn response_came(outstanding: Outstanding, sender: u32, response: &[u8]) -> AfterResponse
+pub fn response_came(mut outstanding: Outstanding, sender: u32, response: &[u8]) -> AfterResponse
     ensures { settled (told_closing result.answer) result.outstanding ≡ response_came outstanding sender response.now }
 {
-    if unfit(outstanding) {
-        return answered(outstanding, Closing::Refused(Refusal::BufferOrRecord));
-    }
-    match response_announces(response) {
-        Announcing::Refused(why) => answered(outstanding, Closing::Refused(why)),
-        Announcing::Yes => matched(outstanding, true, answered_by(sender, response)),
-        Announcing::No => matched(outstanding, false, answered_by(sender, response)),
+    let answer = came(&mut outstanding, sender, response);
+    AfterResponse {
+        answer,
+        outstanding,
     }
 }

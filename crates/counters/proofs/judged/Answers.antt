@@ -1,9 +1,9 @@
--- `judged` meets its contract: behind the last entry in use the TAR is unknown, and else it is judged at its entry. Assumes nothing.
-use Rattle.counters.proofs.Steps.{steps}
+-- `judged` meets its contract: a TAR that no entry has is unknown, and else it is judged at its entry. Assumes nothing.
+use Rattle.counters.proofs.Steps.{tar_unknown, tar_known}
 use Rattle.counters.proofs.judged.Goals as goal
 
-pub returns-then-counters-i : goal.returns-then-counters-i
-returns-then-counters-i c = search steps
+pub returns-in-None : goal.returns-in-None
+returns-in-None c = tar_unknown _ _ _ c.tar_at.ensures.value _ c.in_use.ensures c.in-None.ensures
 
-pub returns : goal.returns
-returns c = search steps
+pub returns-in-Some : goal.returns-in-Some
+returns-in-Some c = tar_known _ _ _ c.tar_at.ensures.value _ c.in_use.ensures _ c.in-Some.ensures _ c.judged_at.ensures

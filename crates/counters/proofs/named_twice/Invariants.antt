@@ -1,10 +1,10 @@
--- `named_twice` meets its contract: no TAR before place i is named again, so the rest says it for all. Assumes nothing.
-use Rattle.counters.proofs.Steps.{NoneTwice}
-use Prim.Native.Nat.{◌-◌}
+-- `named_twice` meets its contract: what is behind says it for all, since no TAR before is named again. Assumes nothing.
+use Rattle.std.proofs.Common.{◌≡◌, length}
+use Rattle.counters.specs.Counters.{named_twice}
 use Rattle.counters.proofs.named_twice.Given as goal
 
-abbrev pub invariant-loop-i : goal.invariant-loop-i
-invariant-loop-i l = NoneTwice l.counters l.i
+abbrev pub invariant-loop-entry : goal.invariant-loop-entry
+invariant-loop-entry l = named_twice l.rest ≡ named_twice l.fn.entries
 
-abbrev pub decreases-loop-i : goal.decreases-loop-i
-decreases-loop-i l = l.counters.count - l.i
+abbrev pub decreases-loop-entry : goal.decreases-loop-entry
+decreases-loop-entry l = length l.rest

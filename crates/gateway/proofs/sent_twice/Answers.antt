@@ -1,17 +1,13 @@
-use Rattle.gateway.proofs.Steps.{steps}
+use Rattle.gateway.proofs.Steps.{steps, twice_found, twice_on}
 use Rattle.gateway.proofs.sent_twice.Goals as goal
 
-pub loop-i-init : goal.loop-i-init
-loop-i-init c = search steps
+pub returns-then-is_some : goal.returns-then-is_some
+returns-then-is_some c =
+    twice_found _ _ c.loop-entry.invariant _ _ c.in-Some.ensures.cases.0 _ c.place_of.ensures _ c.is_some.ensures c.if-is_some.true
 
-pub returns-then-same_command : goal.returns-then-same_command
-returns-then-same_command c = search steps
-
-pub loop-i-preserved-then-j-end : goal.loop-i-preserved-then-j-end
-loop-i-preserved-then-j-end c = search steps
-
-pub loop-i-preserved : goal.loop-i-preserved
-loop-i-preserved c = search steps
+pub loop-entry-preserved : goal.loop-entry-preserved
+loop-entry-preserved c =
+    twice_on _ _ c.loop-entry.invariant _ _ c.in-Some.ensures.cases.0 _ c.place_of.ensures _ c.is_some.ensures c.if-is_some.false
 
 pub returns : goal.returns
 returns c = search steps

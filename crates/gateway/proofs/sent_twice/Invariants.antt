@@ -1,10 +1,10 @@
--- `sent_twice` meets its contract: no command before place i is there again, so the pairs that are left say it for all. Assumes nothing.
-use Rattle.gateway.proofs.Steps.{NoneTwice}
-use Prim.Native.Nat.{◌*◌, ◌+◌, ◌-◌}
+-- `sent_twice` meets its contract: what is behind says it for all, since no command before is there again. Assumes nothing.
+use Rattle.std.proofs.Common.{◌≡◌, length}
+use Rattle.gateway.specs.Gateway.{twice_among}
 use Rattle.gateway.proofs.sent_twice.Given as goal
 
-abbrev pub invariant-loop-i : goal.invariant-loop-i
-invariant-loop-i l = NoneTwice l.entries l.end l.i l.j
+abbrev pub invariant-loop-entry : goal.invariant-loop-entry
+invariant-loop-entry l = twice_among l.rest ≡ twice_among l.fn.entries
 
-abbrev pub decreases-loop-i : goal.decreases-loop-i
-decreases-loop-i l = (l.end - l.i) * 9 + (l.end - l.j)
+abbrev pub decreases-loop-entry : goal.decreases-loop-entry
+decreases-loop-entry l = length l.rest
