@@ -1,4 +1,6 @@
 -- What the proofs of `report` cite: one law for each return or call, over plain variables.
+use Rattle.std.specs.declared.result.Result.{Result}
+use Rattle.std.specs.declared.result.Result.TheVariants.{Ok, Err}
 use Prim.Native.Nat.{ℕ, ◌+◌, ◌/◌, ◌%◌, ◌≤◌, ◌<◌}
 use mathlib.Core.Path.{◌≡◌, refl, sym, ap, ◌∙◌}
 use mathlib.Core.Bool.{Bool, true, false, not}
@@ -13,8 +15,6 @@ use Rattle.octets.specs.Octets.{placed, after_put}
 use Rattle.octets.specs.Laws.{put_fits, put_behind, placed_start}
 use Rattle.types.specs.declared.Kind.TheVariants.{Response}
 use Rattle.types.specs.declared.Refusal.{Refusal}
-use Rattle.packet.specs.declared.read.Judged.{Judged}
-use Rattle.packet.specs.declared.read.Judged.TheVariants as judged
 use Rattle.types.specs.Refusals.{refused, gives, refuse◌when◌otherwise◌, refusal_number}
 use Rattle.packet.specs.Packets.{chl, readable}
 use Rattle.packet.specs.Laws.{PacketLengths}
@@ -106,27 +106,27 @@ module _ (edition spi capacity : ℕ) (p d : List ℕ) where
         unfolding write_report reporting
         report_edition u = rw (eq-eqb (length d) 140 l, ← f, t, ← g, not-true k u)
 
-        module _ (u : not k ≡ false) (j : Judged) (e : told_judged j ≡ readable Response false p (gives (chl p))) where
-          pub report_refused : (r : Refusal) → j ≡ judged.Refused r → reported (refused (refusal_number r)) d ≡ write_report edition spi capacity p d
+        module _ (u : not k ≡ false) (j : Result ℕ Refusal) (e : told_judged j ≡ readable Response false p (gives (chl p))) where
+          pub report_refused : (r : Refusal) → j ≡ Err r → reported (refused (refusal_number r)) d ≡ write_report edition spi capacity p d
           unfolding write_report reporting
           report_refused r v = rw (eq-eqb (length d) 140 l, ← f, t, ← g, not-false k u, ← judged_refused Response false p j e r v)
 
-          pub report_sent : (h : ℕ) → j ≡ judged.Readable h → (status : ℕ) → status ≡ announced_by edition → (w : Reported)
+          pub report_sent : (h : ℕ) → j ≡ Ok h → (status : ℕ) → status ≡ announced_by edition → (w : Reported)
               → w ≡ writes_report (refuse 17 when reserved spi otherwise gives (going_out status spi capacity p)) d → w ≡ write_report edition spi capacity p d
           unfolding write_report reporting
           report_sent h v status s w i =
               rw (eq-eqb (length d) 140 l, ← f, t, ← g, not-false k u, ← s, ← judged_readable Response false p j e h v) i
 
 -- ---- the receiver
-module _ (p : List ℕ) (j : Judged) (e : told_judged j ≡ readable Response false p (gives (chl p))) where
-  pub announces_refused : (r : Refusal) → j ≡ judged.Refused r → refused (refusal_number r) ≡ response_announces p
+module _ (p : List ℕ) (j : Result ℕ Refusal) (e : told_judged j ≡ readable Response false p (gives (chl p))) where
+  pub announces_refused : (r : Refusal) → j ≡ Err r → refused (refusal_number r) ≡ response_announces p
   unfolding response_announces
   announces_refused r t = judged_refused Response false p j e r t (gives (announces_another (get_or p 12 0)))
 
-  pub status_inside : (h : ℕ) → j ≡ judged.Readable h → 12 < length p
+  pub status_inside : (h : ℕ) → j ≡ Ok h → 12 < length p
   status_inside h t = let f : PacketLengths Response p = judged_formed Response false p j e h t in omega arith
 
-  pub announces_told : (h : ℕ) → j ≡ judged.Readable h → (a b : Bool) → a ≡ announces_another (get_or p 12 0) → a ≡ b → gives b ≡ response_announces p
+  pub announces_told : (h : ℕ) → j ≡ Ok h → (a b : Bool) → a ≡ announces_another (get_or p 12 0) → a ≡ b → gives b ≡ response_announces p
   unfolding response_announces
   announces_told h t a b f g = rw (← f, g) (judged_readable Response false p j e h t (gives b))
 

@@ -1,9 +1,11 @@
 -- Report first, data afterwards (02, [1] and [12]; 000, 4.1; 003): "given a command's SPI, a complete plain response and the report's capacity in octets ..,
 -- say what goes out". The response is read as a plain one: a ciphered one that is handed in is taken for plain.
-use Rattle.std.specs.Prelude.{ℕ, ◌/◌, ◌%◌, Bool, true, false, not, cond, ◌&&◌, ◌||◌, List, [], ◌∷◌, ◌++◌, length, get_or, take, drop, eqb, ltb, leb}
+use Rattle.std.specs.declared.result.Result.{Result}
+use Rattle.std.specs.declared.result.Result.TheVariants.{Ok, Err}
+use Rattle.types.specs.declared.Refusal.{Refusal}
+use Rattle.std.specs.Prelude.{ℕ, ◌/◌, ◌%◌, Bool, false, not, cond, ◌&&◌, ◌||◌, List, [], ◌∷◌, ◌++◌, length, get_or, take, drop, eqb, ltb, leb}
 use Rattle.types.specs.declared.Kind.TheVariants.{Response}
 use Rattle.types.specs.declared.Outgoing as outgoing
-use Rattle.types.specs.declared.Announcing as announcing-type
 use Rattle.types.specs.Refusals.{Outcome, refused, gives, refuse◌when◌otherwise◌, refusal_number}
 use Rattle.packet.specs.Packets.{plain, readable, packet_of}
 
@@ -114,12 +116,12 @@ unfoldable pub write_report : ℕ → ℕ → ℕ → List ℕ → List ℕ → 
 write_report edition spi capacity p buffer = writes_report (reporting edition spi capacity p (length buffer)) buffer
 
 -- what the enum of the answer says
-abbrev pub told_outgoing : outgoing.Outgoing → Outcome (Going ℕ)
-told_outgoing outgoing.TheVariants.Nothing = gives nothing_goes
-told_outgoing (outgoing.TheVariants.Report n) = gives (in_report n)
-told_outgoing (outgoing.TheVariants.Announcement n) = gives (announced n)
-told_outgoing outgoing.TheVariants.Submit = gives submitted
-told_outgoing (outgoing.TheVariants.Refused r) = refused (refusal_number r)
+abbrev pub told_outgoing : Result outgoing.Outgoing Refusal → Outcome (Going ℕ)
+told_outgoing (Ok outgoing.TheVariants.Nothing) = gives nothing_goes
+told_outgoing (Ok (outgoing.TheVariants.Report n)) = gives (in_report n)
+told_outgoing (Ok (outgoing.TheVariants.Announcement n)) = gives (announced n)
+told_outgoing (Ok outgoing.TheVariants.Submit) = gives submitted
+told_outgoing (Err r) = refused (refusal_number r)
 
 -- ---- the receiver
 -- "A server accepts either": whether a plain response says that another follows, by its status; 9 and 12 as in parsing
@@ -129,7 +131,6 @@ announces_another status = eqb status response_follows || eqb status more_time
 unfoldable pub response_announces : List ℕ → Outcome Bool
 response_announces p = readable Response false p (gives (announces_another (status_of p)))
 
-abbrev pub told_announcing : announcing-type.Announcing → Outcome Bool
-told_announcing announcing-type.TheVariants.Yes = gives true
-told_announcing announcing-type.TheVariants.No = gives false
-told_announcing (announcing-type.TheVariants.Refused r) = refused (refusal_number r)
+abbrev pub told_announcing : Result Bool Refusal → Outcome Bool
+told_announcing (Ok announces) = gives announces
+told_announcing (Err r) = refused (refusal_number r)

@@ -8,10 +8,7 @@ ghost use Rattle.packet.specs.Laws.{PacketLengths};
 ghost use Rattle.report.specs.Reporting.{asked, reserved, no_capacity, report_of, announcing, going_out, known_edition, announced_by, reported, writes_report, write_report, told_outgoing, announces_another, response_announces, told_announcing};
 
 use packet::read;
-use packet::read::Judged;
-use types::{
-    Announcing, Kind, OLD_EDITION, Outgoing, PRESENT_EDITION, Refusal, Spi, USER_DATA_OCTETS,
-};
+use types::{Kind, OLD_EDITION, Outgoing, PRESENT_EDITION, Refusal, Spi, USER_DATA_OCTETS};
 
 // The status of a response that only says that another follows: in the present edition "actual response data to be sent using SMS-SUBMIT", in the
 // old one "more time".
@@ -34,7 +31,7 @@ fn no_capacity(capacity: usize) -> bool
 fn is_asked(spi: u8, status: u8) -> bool
     ensures { result ≡ asked spi status }
 {
-    (spi % 4 == 1) | ((spi % 4 == 2) & !(status == 0))
+    (spi % 4 == 1) | ((spi % 4 == 2) & (status != 0))
 }
 
 // Whether there is such an edition.
@@ -87,26 +84,32 @@ fn put_announcement(status: u8, response: &[u8], out: &mut [u8]) -> usize
 
 // ---- what goes out
 // Of a response that can be read, and a report of a capacity that it can have; `status` is what announces a response that follows.
-fn send(status: u8, spi: u8, capacity: usize, response: &[u8], out: &mut [u8]) -> Outgoing
+fn send(
+    status: u8,
+    spi: u8,
+    capacity: usize,
+    response: &[u8],
+    out: &mut [u8],
+) -> Result<Outgoing, Refusal>
     requires packet_lengths { (PacketLengths Kind.Response response.now) × (length response.now ≤ 2142) }
     requires out_len { (length out.old ≡ 140) × (capacity ≤ 140) }
     ensures { reported (told_outgoing result) out.new ≡ writes_report (refuse 17 when reserved spi otherwise gives (going_out status spi capacity response.now)) out.old }
 {
     if spi % 4 == 3 {
-        return Outgoing::Refused(Refusal::ReservedSpi);
+        return Err(Refusal::ReservedSpi);
     }
     if !is_asked(spi, response[12]) {
-        return Outgoing::Nothing;
+        return Ok(Outgoing::Nothing);
     }
     if spi / 32 % 2 == 1 {
-        return Outgoing::Submit;
+        return Ok(Outgoing::Submit);
     }
     if 3 + response.len() <= capacity {
         let length = put_report(response, out);
-        return Outgoing::Report { length };
+        return Ok(Outgoing::Report { length });
     }
     let length = put_announcement(status, response, out);
-    Outgoing::Announcement { length }
+    Ok(Outgoing::Announcement { length })
 }
 
 // Says what goes out of a complete plain response to a command with this SPI, by way of a delivery report that holds so many octets, from a card
@@ -118,38 +121,27 @@ pub fn write_report(
     edition: u32,
     response: &[u8],
     out: &mut [u8],
-) -> Outgoing
+) -> Result<Outgoing, Refusal>
     ensures { reported (told_outgoing result) out.new ≡ write_report edition spi.1 capacity response.now out.old }
 {
     if out.len() != USER_DATA_OCTETS {
-        return Outgoing::Refused(Refusal::BufferOrRecord);
+        return Err(Refusal::BufferOrRecord);
     }
     if no_capacity(capacity) {
-        return Outgoing::Refused(Refusal::ReportCapacity);
+        return Err(Refusal::ReportCapacity);
     }
     if !is_known(edition) {
-        return Outgoing::Refused(Refusal::UnknownEdition);
+        return Err(Refusal::UnknownEdition);
     }
-    let judged = read::judge(Kind::Response, false, response);
-    match judged {
-        Judged::Refused(refusal) => Outgoing::Refused(refusal),
-        Judged::Readable(_) => send(announced_by(edition), spi.1, capacity, response, out),
-    }
+    read::judge(Kind::Response, false, response)?;
+    send(announced_by(edition), spi.1, capacity, response, out)
 }
 
 // ---- the receiver
 // Whether a plain response says that another follows, in either edition: by its status. A ciphered response is taken for plain.
-pub fn response_announces(response: &[u8]) -> Announcing
+pub fn response_announces(response: &[u8]) -> Result<bool, Refusal>
     ensures { told_announcing result ≡ response_announces response.now }
 {
-    let judged = read::judge(Kind::Response, false, response);
-    match judged {
-        Judged::Refused(refusal) => Announcing::Refused(refusal),
-        Judged::Readable(_) => {
-            if announces_another(response[12]) {
-                return Announcing::Yes;
-            }
-            Announcing::No
-        }
-    }
+    read::judge(Kind::Response, false, response)?;
+    Ok(announces_another(response[12]))
 }

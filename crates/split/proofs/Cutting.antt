@@ -4,11 +4,10 @@ use mathlib.Core.Path.{◌≡◌, sym, ap, ◌∙◌}
 use mathlib.Core.List.{List, ◌++◌, append-nil}
 use native.Mathlib.Omega.{arith}
 use native.Mathlib.Nat.{add-sub_cancel_left, mul-le-mul, zero-add}
-use lib.ListN.{length, take, drop, set, replicate, length-append, length-drop, drop_of_length-le}
-use lib.Seq.{length-take-le, take_all, drop-length}
+use lib.ListN.{length, take, drop, replicate, length-append, length-drop, drop_of_length-le}
+use lib.Seq.{length-take-le, take_all}
 use mir.Syntax.{w64}
 use mir.Val.{Fits}
-use borrow.Author.Fill.{fill_more}
 use borrow.Author.Tests.{eq-eqb, ne_eqb}
 use Rattle.octets.specs.Octets.{placed, after_put}
 use Rattle.octets.specs.Laws.{put_fits, length_placed, placed_start, placed_next}
@@ -56,15 +55,6 @@ module _ (width : ℕ) (p : List ℕ) (number : ℕ) where
   cut_octets o from space l e f g = rw (part_cut width p number l, ← e, ← f) g
 
 -- ---- what is filled
-module _ (d part : List ℕ) (i : ℕ) (e : part ≡ replicate i 0 ++ drop i d) where
-  pub clear_more : length part ≡ length d → i < length part → set part i 0 ≡ replicate (i + 1) 0 ++ drop (i + 1) d
-  clear_more l m = rw e (fill_more i 0 d (omega arith))
-
-  pub clear_all : length part ≡ length d → i ≤ length d → length part ≤ i → part ≡ replicate (length d) 0
-  clear_all l m n =
-      let f : i ≡ length d = omega arith in
-      e ∙ rw (f, drop-length d) (append-nil (replicate (length d) 0))
-
 pub fill_stands : (d ys : List ℕ) (at : ℕ) → at ≤ length d → ys ≡ replicate (length (take (length d - at) (drop at d))) 0
     → take at d ++ (ys ++ drop (length d - at) (drop at d)) ≡ take at d ++ replicate (length d - at) 0
 fill_stands d ys at l e =

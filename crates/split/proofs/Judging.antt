@@ -1,4 +1,6 @@
 -- Laws that the proofs about refusals cite: each return of `due`, and what a public call makes of the answer.
+use Rattle.std.specs.declared.result.Result.{Result}
+use Rattle.std.specs.declared.result.Result.TheVariants.{Ok, Err}
 use Prim.Native.Nat.{ℕ, ◌≤◌, ◌<◌}
 use mathlib.Core.Path.{◌≡◌, refl}
 use mathlib.Core.Bool.{Bool, true, false, not}
@@ -17,8 +19,6 @@ use Rattle.packet.proofs.PacketLaws.{formed_facts}
 use Rattle.arrival.specs.Message.{most_user_data}
 use Rattle.arrival.specs.Page.{page_octets, identifier_in_range}
 use Rattle.arrival.specs.Keys.{reference_fits}
-use Rattle.split.specs.declared.Due.{Due}
-use Rattle.split.specs.declared.Due.TheVariants as due
 use Rattle.split.specs.Splitting.{Piece, written, writes_part, parts, most_split, no_such_part, user_data, writing, write_message, pages, page_written, most_pages, writing_page, write_page}
 use Rattle.split.specs.Laws.{most_pages_lem}
 use Rattle.split.proofs.PartLaws.{most_parts_lem}
@@ -114,25 +114,25 @@ judged n true true true false true total y = refuses 14 refl refl
 judged n true true true false false total y =
     passes (record { lent = refl; named = refl; formed = refl; long = refl; numbered = refl }) refl refl
 
-module _ (t : Tests) (x : Due) (y : Piece) (h : told_due x ≡ tested t y.total) where
+module _ (t : Tests) (x : Result ℕ Refusal) (y : Piece) (h : told_due x ≡ tested t y.total) where
   case : Judged t y.total y
   case = judged t.second t.lent t.named t.formed t.long t.numbered y.total y
 
-  passed : (total : ℕ) → x ≡ due.Total total → Passed t × (total ≡ y.total)
+  passed : (total : ℕ) → x ≡ Ok total → Passed t × (total ≡ y.total)
   passed total f = go case
     where
       go : Judged t y.total y → Passed t × (total ≡ y.total)
       go (refuses n a b) = let z : ◌≡◌ {A = ℕ} 0 1 = cc in absurd (omega arith)
       go (passes p a b) = (p, cc)
 
-  call_refused : (r : Refusal) (buffer : List ℕ) → x ≡ due.Refused r → written (refused (refusal_number r)) buffer ≡ writes_part (tested t y) buffer
+  call_refused : (r : Refusal) (buffer : List ℕ) → x ≡ Err r → written (refused (refusal_number r)) buffer ≡ writes_part (tested t y) buffer
   call_refused r buffer f = go case
     where
       go : Judged t y.total y → written (refused (refusal_number r)) buffer ≡ writes_part (tested t y) buffer
       go (refuses n a b) = let e : refusal_number r ≡ n = cc in rw (b, e)
       go (passes p a b) = let z : ◌≡◌ {A = ℕ} 0 1 = cc in absurd (omega arith)
 
-  call_written : (total size : ℕ) (buffer after : List ℕ) → x ≡ due.Total total → Standing y.octets size buffer after
+  call_written : (total size : ℕ) (buffer after : List ℕ) → x ≡ Ok total → Standing y.octets size buffer after
       → written (gives (record { total = total; size = size })) after ≡ writes_part (tested t y) buffer
   call_written total size buffer after f s = go case
     where
@@ -161,7 +161,7 @@ module _ (k : Kind) (width reference : ℕ) (p : List ℕ) (number : ℕ) where
   abbrev message_piece : Piece
   message_piece = record { total = parts width (length p); octets = user_data k width reference p number }
 
-  pub message_ready : (x : Due) (total size : ℕ) → told_due x ≡ judging k width reference p number size → x ≡ due.Total total
+  pub message_ready : (x : Result ℕ Refusal) (total size : ℕ) → told_due x ≡ judging k width reference p number size → x ≡ Ok total
       → Writable width reference p total number size
   message_ready x total size e f =
       let (a, s) = passed (message_tests size) x message_piece e total f in
@@ -173,12 +173,12 @@ module _ (k : Kind) (width reference : ℕ) (p : List ℕ) (number : ℕ) where
         all = s;
       }
 
-  module _ (x : Due) (buffer : List ℕ) (e : told_due x ≡ judging k width reference p number (length buffer)) where
-    pub message_refused : (r : Refusal) → x ≡ due.Refused r → written (refused (refusal_number r)) buffer ≡ write_message k width reference p number buffer
+  module _ (x : Result ℕ Refusal) (buffer : List ℕ) (e : told_due x ≡ judging k width reference p number (length buffer)) where
+    pub message_refused : (r : Refusal) → x ≡ Err r → written (refused (refusal_number r)) buffer ≡ write_message k width reference p number buffer
     unfolding write_message writing
     message_refused r f = call_refused (message_tests (length buffer)) x message_piece e r buffer f
 
-    pub message_written : (total size : ℕ) (after : List ℕ) → x ≡ due.Total total → Standing (user_data k width reference p number) size buffer after
+    pub message_written : (total size : ℕ) (after : List ℕ) → x ≡ Ok total → Standing (user_data k width reference p number) size buffer after
         → written (gives (record { total = total; size = size })) after ≡ write_message k width reference p number buffer
     unfolding write_message writing
     message_written total size after f s = call_written (message_tests (length buffer)) x message_piece e total size buffer after f s
@@ -198,7 +198,7 @@ module _ (identifier : ℕ) (p : List ℕ) (number : ℕ) where
   abbrev page_piece : List ℕ → Piece
   page_piece o = record { total = pages (length p); octets = o }
 
-  pub page_ready : (x : Due) (total size : ℕ) → told_due x ≡ judging_page identifier p number size → x ≡ due.Total total
+  pub page_ready : (x : Result ℕ Refusal) (total size : ℕ) → told_due x ≡ judging_page identifier p number size → x ≡ Ok total
       → PageReady p total number size
   page_ready x total size e f =
       let (a, s) = passed (page_tests size) x (page_piece []) e total f in
@@ -206,12 +206,12 @@ module _ (identifier : ℕ) (p : List ℕ) (number : ℕ) where
       let most = most_pages_lem (length p) (ltb-false most_pages (length p) a.long) in
       record { lent = eqb-true size page_octets a.lent; all = s; most = omega arith; first = low; last = omega arith }
 
-  module _ (serial dcs : ℕ) (x : Due) (buffer : List ℕ) (e : told_due x ≡ judging_page identifier p number (length buffer)) where
-    pub page_refused : (r : Refusal) → x ≡ due.Refused r → written (refused (refusal_number r)) buffer ≡ write_page serial identifier dcs p number buffer
+  module _ (serial dcs : ℕ) (x : Result ℕ Refusal) (buffer : List ℕ) (e : told_due x ≡ judging_page identifier p number (length buffer)) where
+    pub page_refused : (r : Refusal) → x ≡ Err r → written (refused (refusal_number r)) buffer ≡ write_page serial identifier dcs p number buffer
     unfolding write_page writing_page
     page_refused r f = call_refused (page_tests (length buffer)) x (page_piece (page_written serial identifier dcs p number)) e r buffer f
 
-    pub page_written_lem : (total size : ℕ) (after : List ℕ) → x ≡ due.Total total → Standing (page_written serial identifier dcs p number) size buffer after
+    pub page_written_lem : (total size : ℕ) (after : List ℕ) → x ≡ Ok total → Standing (page_written serial identifier dcs p number) size buffer after
         → written (gives (record { total = total; size = size })) after ≡ write_page serial identifier dcs p number buffer
     unfolding write_page writing_page
     page_written_lem total size after f s =

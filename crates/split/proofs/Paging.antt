@@ -11,7 +11,8 @@ use Rattle.split.specs.Splitting.{content_of, parameter, page_written}
 use Rattle.split.specs.Laws.{page_length}
 use Rattle.split.specs.Within.{HeaderPut, PageReady, Standing, page_head}
 use Rattle.split.proofs.Headers.{header_put}
-use Rattle.split.proofs.Cutting.{two_put}
+use borrow.Rule.Slice.PartMut.{put_mid}
+use Rattle.split.proofs.Cutting.{fill_stands, two_put}
 
 pub page_head_put : (serial identifier dcs param : ℕ) (d d' : List ℕ) (s i : Pair) → s ≡ pair_of serial → i ≡ pair_of identifier → length d ≡ 88
     → d' ≡ after_put d 0 (s.0 ∷ s.1 ∷ i.0 ∷ i.1 ∷ dcs ∷ param ∷ []) → HeaderPut (page_head serial identifier dcs param) 6 d d'
@@ -36,10 +37,12 @@ module _ (serial identifier dcs param : ℕ) (p : List ℕ) (total number size :
   unfolding page_written content_of
   is_page_lem e = rw (e, o, r.all)
 
-  pub page_stands : (d₃ : List ℕ) → param ≡ parameter total number
-      → d₃ ≡ take (6 + length own) d₂ ++ replicate (length d₂ - (6 + length own)) 0
-      → Standing (page_written serial identifier dcs p number) 88 d d₃
-  page_stands d₃ e f =
+  pub page_stands : (zeros : List ℕ) → param ≡ parameter total number
+      → zeros ≡ replicate (length (take (length d₂ - (6 + length own)) (drop (6 + length own) d₂))) 0
+      → Standing (page_written serial identifier dcs p number) 88 d (put_mid (6 + length own) (length d₂ - (6 + length own)) d₂ zeros)
+  page_stands zeros e z =
+      let f : put_mid (6 + length own) (length d₂ - (6 + length own)) d₂ zeros ≡ take (6 + length own) d₂ ++ replicate (length d₂ - (6 + length own)) 0 =
+      fill_stands d₂ zeros (6 + length own) (omega (arith, whole)) z in
       let a : take (6 + length own) d₂ ≡ page_head serial identifier dcs param ++ own =
       rw both_stand.stands (take_at (page_head serial identifier dcs param ++ own) _ (6 + length own) (sym both_stand.long)) in
       let b : length d₂ - (6 + length own) ≡ 82 - length own = omega (arith, whole) in

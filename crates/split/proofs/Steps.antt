@@ -2,9 +2,9 @@
 use borrow.Author.Rules.{rules}
 use Rattle.split.proofs.Counting.{parts_one, parts_fit, parts_more}
 use Rattle.split.proofs.Judging.{refused_buffer, refused_reference, refused_unformed, refused_long, refused_number, judged_total, refused_page_buffer, refused_identifier, refused_unformed_page, refused_long_page, refused_page_number, judged_pages, message_refused, message_written, page_refused, page_written_lem, message_ready, page_ready}
-use Rattle.split.proofs.Headers.{udhl_first, udhl_later, prefix_count, single_put, narrow_put, wide_put, wide_fits, narrow_fits, single_header_put, wide_header_put, narrow_header_put}
-use Rattle.split.proofs.Cutting.{from_one, product_fits, from_fits, from_later, cut_rest, cut_full, whole_octets, cut_octets, clear_more, clear_all, fill_stands, ready_begins, user_data_fit, user_data_stands}
-use Rattle.split.proofs.Paging.{page_head_put, own_short, page_stands}
+use Rattle.split.proofs.Headers.{udhl_first, udhl_later, counted_put, wide_fits, narrow_fits, single_header_put, wide_header_put, narrow_header_put}
+use Rattle.split.proofs.Cutting.{from_one, product_fits, from_fits, from_later, cut_rest, cut_full, whole_octets, cut_octets, ready_begins, user_data_fit, user_data_stands}
+use Rattle.split.proofs.Paging.{page_head_put, own_short}
 
 pub ruleset steps = (
   rules,
@@ -25,10 +25,7 @@ pub ruleset steps = (
   judged_pages,
   udhl_first,
   udhl_later,
-  prefix_count,
-  single_put,
-  narrow_put,
-  wide_put,
+  counted_put,
   wide_fits,
   narrow_fits,
   single_header_put,
@@ -42,15 +39,11 @@ pub ruleset steps = (
   cut_full,
   whole_octets,
   cut_octets,
-  clear_more,
-  clear_all,
-  fill_stands,
   ready_begins,
   user_data_fit,
   user_data_stands,
   page_head_put,
   own_short,
-  page_stands,
   message_refused,
   message_written,
   page_refused,

@@ -1,4 +1,7 @@
 -- Splitting (01, "Splitting", "Pages"). A width is its concatenation element and its room; packet kind and width are parameters of one rule.
+use Rattle.std.specs.declared.result.Result.{Result}
+use Rattle.std.specs.declared.result.Result.TheVariants.{Ok, Err}
+use Rattle.types.specs.declared.Refusal.{Refusal}
 use Rattle.std.specs.Prelude.{ℕ, ◌+◌, ◌-◌, ◌*◌, ◌/◌, Bool, not, cond, ◌||◌, List, [], ◌∷◌, ◌++◌, length, take, drop, replicate, eqb, ltb, leb}
 use Rattle.octets.specs.Octets.{pair_of}
 use Rattle.types.specs.declared.Kind.{Kind}
@@ -22,9 +25,9 @@ pub record Told : Type 0 where
   pub total : ℕ
   pub size : ℕ
 
-abbrev pub told : declared.WrittenPart → Outcome Told
-told (declared.TheVariants.Part t n) = gives (record { total = t; size = n })
-told (declared.TheVariants.Refused r) = refused (refusal_number r)
+abbrev pub told : Result declared.WrittenPart Refusal → Outcome Told
+told (Ok x) = gives (record { total = x.total; size = x.length })
+told (Err r) = refused (refusal_number r)
 
 pub record Written : Type 0 where
   pub answer : Outcome Told

@@ -1,4 +1,7 @@
 -- What only the functions of this crate cite of one another.
+use Rattle.std.specs.declared.result.Result.{Result}
+use Rattle.std.specs.declared.result.Result.TheVariants.{Ok, Err}
+use Rattle.types.specs.declared.Refusal.{Refusal}
 use Rattle.std.specs.Prelude.{ℕ, ◌≤◌, ◌≡◌, true, not, List, [], ◌∷◌, ◌++◌, length, drop, eqb, ltb}
 use Rattle.octets.specs.Octets.{pair_of, placed}
 use Rattle.types.specs.declared.Kind.{Kind}
@@ -8,14 +11,12 @@ use Rattle.packet.specs.Packets.{well_formed}
 use Rattle.arrival.specs.Message.{most_user_data}
 use Rattle.arrival.specs.Page.{page_octets, identifier_in_range}
 use Rattle.arrival.specs.Keys.{reference_fits}
-use Rattle.split.specs.declared.Due.{Due}
-use Rattle.split.specs.declared.Due.TheVariants as due
 use Rattle.split.specs.Splitting.{parts, most_split, pages, most_pages, no_such_part}
 
 -- what the answer to "is this part due" says: the number of parts, or the refusal
-abbrev pub told_due : Due → Outcome ℕ
-told_due (due.Total total) = gives total
-told_due (due.Refused r) = refused (refusal_number r)
+abbrev pub told_due : Result ℕ Refusal → Outcome ℕ
+told_due (Ok total) = gives total
+told_due (Err r) = refused (refusal_number r)
 
 -- The refusals of writing user data, and of writing a page, of a buffer of `size` octets; where there is none, the number of parts.
 abbrev pub judging : Kind → ℕ → ℕ → List ℕ → ℕ → ℕ → Outcome ℕ

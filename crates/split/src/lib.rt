@@ -9,13 +9,6 @@ ghost use Rattle.split.specs.Splitting.{told, written, write_message, write_page
 
 use types::{Kind, MessageIdentifier, Refusal, SerialNumber, WrittenPart};
 
-// What is due to a call that asks for a part: how many parts there are, where the part is to be written, or why it is not.
-#[derive(Clone, Copy)]
-pub(crate) enum Due {
-    Total(usize),
-    Refused(Refusal),
-}
-
 // Writes one part of a packet as the user data of a short message to the start of the 140 octets in out, and leaves the rest of them as it
 // was. A refusal writes nothing.
 pub fn write_message(
@@ -25,17 +18,12 @@ pub fn write_message(
     number: u32,
     packet: &[u8],
     out: &mut [u8],
-) -> WrittenPart
+) -> Result<WrittenPart, Refusal>
     ensures { written (told result) out.new ≡ write_message kind width reference packet.now number out.old }
 {
-    let due = message::due(kind, width, reference, number, packet, out.len());
-    match due {
-        Due::Refused(r) => WrittenPart::Refused(r),
-        Due::Total(total) => {
-            let length = message::write(kind, width, reference, total, number, packet, out);
-            WrittenPart::Part { total, length }
-        }
-    }
+    let total = message::due(kind, width, reference, number, packet, out.len())?;
+    let length = message::write(kind, width, reference, total, number, packet, out);
+    Ok(WrittenPart { total, length })
 }
 
 // Writes one page of a command packet to the 88 octets of out. A refusal writes nothing.
@@ -46,15 +34,10 @@ pub fn write_page(
     number: u32,
     packet: &[u8],
     out: &mut [u8],
-) -> WrittenPart
+) -> Result<WrittenPart, Refusal>
     ensures { written (told result) out.new ≡ write_page serial.0 identifier.0 dcs packet.now number out.old }
 {
-    let due = page::due(identifier, number, packet, out.len());
-    match due {
-        Due::Refused(r) => WrittenPart::Refused(r),
-        Due::Total(total) => {
-            let length = page::write(serial, identifier, dcs, total, number, packet, out);
-            WrittenPart::Part { total, length }
-        }
-    }
+    let total = page::due(identifier, number, packet, out.len())?;
+    let length = page::write(serial, identifier, dcs, total, number, packet, out);
+    Ok(WrittenPart { total, length })
 }

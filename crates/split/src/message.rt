@@ -1,9 +1,9 @@
 // Writing user data: which parts a packet has, the header of each, and its octets (01, "Splitting").
-ghost use Rattle.std.specs.Prelude.{◌≡◌, cond, [], ◌∷◌, ◌+◌, ◌≤◌, length, eqb};
+ghost use Rattle.std.specs.Prelude.{◌≡◌, cond, [], ◌∷◌, ◌+◌, ◌≤◌, ◌<◌, length, slice_index, take, eqb};
 ghost use Rattle.split.specs.Splitting.{parts, part_from, part_octets, identifier_element, header_of, user_data, most_split};
 ghost use Rattle.split.specs.Within.{HeaderPut, Numbered, Writable, Standing, told_due, judging};
 
-use crate::{Due, part};
+use crate::part;
 use arrival::keys::{reference_fits, room};
 use types::{Kind, PARTS, Refusal, USER_DATA_OCTETS};
 
@@ -40,26 +40,26 @@ pub(crate) fn due(
     number: u32,
     packet: &[u8],
     size: usize,
-) -> Due
+) -> Result<usize, Refusal>
     ensures { told_due result ≡ judging kind width reference packet.now number size }
 {
     if size != USER_DATA_OCTETS {
-        return Due::Refused(Refusal::BufferOrRecord);
+        return Err(Refusal::BufferOrRecord);
     }
     if !reference_fits(width, reference) {
-        return Due::Refused(Refusal::ReferenceWidth);
+        return Err(Refusal::ReferenceWidth);
     }
     if !packet::read::well_formed(kind, packet) {
-        return Due::Refused(Refusal::MalformedPacket);
+        return Err(Refusal::MalformedPacket);
     }
     if most_split(width) < packet.len() {
-        return Due::Refused(Refusal::PacketTooLong);
+        return Err(Refusal::PacketTooLong);
     }
     let total = parts(width, packet.len());
     if part::no_such_part(total, number) {
-        return Due::Refused(Refusal::PartNumber);
+        return Err(Refusal::PartNumber);
     }
-    Due::Total(total)
+    Ok(total)
 }
 
 // ---- the header
@@ -84,45 +84,18 @@ fn udhl(element: u8, number: u8) -> u8
     element
 }
 
-// The header of a single message.
-fn put_single(kind: Kind, out: &mut [u8]) -> usize
-    requires { length out.old ≡ 140 }
-    ensures { HeaderPut (2 ∷ identifier_element kind) result out.old out.new }
+// Puts the start of a header at the buffer's start: its first octet, and as many behind it as that says; answers with how many they are.
+fn put_counted(header: &[u8], out: &mut [u8]) -> usize
+    requires header_len { (slice_index header.now 0 < length header.now) × (length header.now ≤ 9) }
+    requires out_len { length out.old ≡ 140 }
+    ensures { HeaderPut (take (slice_index header.now 0 + 1) header.now) result out.old out.new }
 {
-    let id = identifier(kind);
-    let header = [0x02, id, 0x00];
-    octets::put(&header, out, 0);
-    3
-}
-
-// The header of a part of several with an 8-bit reference.
-fn put_narrow(kind: Kind, reference: u8, total: u8, number: u8, out: &mut [u8]) -> usize
-    requires { (total ≡ 1 → ⊥) × (length out.old ≡ 140) }
-    ensures { HeaderPut (header_of kind 8 reference total number) result out.old out.new }
-{
-    let id = identifier(kind);
-    let counted = udhl(5, number);
-    let header = [counted, 0x00, 0x03, reference, total, number, id, 0x00];
-    let end = counted as usize + 1;
+    let end = header[0] as usize + 1;
     octets::put(&header[..end], out, 0);
     end
 }
 
-// The header of a part of several with a 16-bit reference.
-fn put_wide(kind: Kind, reference: u16, total: u8, number: u8, out: &mut [u8]) -> usize
-    requires { (total ≡ 1 → ⊥) × (length out.old ≡ 140) }
-    ensures { HeaderPut (header_of kind 16 reference total number) result out.old out.new }
-{
-    let id = identifier(kind);
-    let counted = udhl(6, number);
-    let pair = octets::pair_of(reference);
-    let header = [counted, 0x08, 0x04, pair.0, pair.1, total, number, id, 0x00];
-    let end = counted as usize + 1;
-    octets::put(&header[..end], out, 0);
-    end
-}
-
-// The header of part `number` of `total`.
+// The header of part `number` of `total`. The packet identifier is its end, which is not counted in a later part of several.
 fn put_header(
     kind: Kind,
     width: u32,
@@ -134,13 +107,25 @@ fn put_header(
     requires { Numbered width reference total number (length out.old) }
     ensures { HeaderPut (header_of kind width reference total number) result out.old out.new }
 {
+    let id = identifier(kind);
     if total == 1 {
-        return put_single(kind, out);
+        return put_counted(&[0x02, id, 0x00], out);
     }
+    let total = total as u8;
+    let number = number as u8;
     if width == 16 {
-        return put_wide(kind, reference as u16, total as u8, number as u8, out);
+        let pair = octets::pair_of(reference as u16);
+        let count = udhl(6, number);
+        return put_counted(
+            &[count, 0x08, 0x04, pair.0, pair.1, total, number, id, 0x00],
+            out,
+        );
     }
-    put_narrow(kind, reference as u8, total as u8, number as u8, out)
+    let count = udhl(5, number);
+    put_counted(
+        &[count, 0x00, 0x03, reference as u8, total, number, id, 0x00],
+        out,
+    )
 }
 
 // ---- the octets

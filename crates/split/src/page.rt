@@ -3,7 +3,7 @@ ghost use Rattle.std.specs.Prelude.{◌≡◌, ◌-◌, ◌*◌, ◌≤◌, leng
 ghost use Rattle.split.specs.Splitting.{pages, parameter, page_written};
 ghost use Rattle.split.specs.Within.{HeaderPut, PageReady, Standing, told_due, judging_page, page_head};
 
-use crate::{Due, part};
+use crate::part;
 use arrival::keys::in_range;
 use types::{Kind, MessageIdentifier, PAGE_CONTENT, PAGE_OCTETS, Refusal, SerialNumber};
 
@@ -19,26 +19,32 @@ fn pages(size: usize) -> usize
 }
 
 // Every refusal of a call, in 01's order: 1, 5, 9, 12, 14. Nothing is written before it is known that there is none.
-pub(crate) fn due(identifier: MessageIdentifier, number: u32, packet: &[u8], size: usize) -> Due
+// The last three are tested as for user data; a shared test would take how to count the parts as a closure, and be no plainer.
+pub(crate) fn due(
+    identifier: MessageIdentifier,
+    number: u32,
+    packet: &[u8],
+    size: usize,
+) -> Result<usize, Refusal>
     ensures { told_due result ≡ judging_page identifier.0 packet.now number size }
 {
     if size != PAGE_OCTETS {
-        return Due::Refused(Refusal::BufferOrRecord);
+        return Err(Refusal::BufferOrRecord);
     }
     if !in_range(identifier) {
-        return Due::Refused(Refusal::WrongIdentifier);
+        return Err(Refusal::WrongIdentifier);
     }
     if !packet::read::well_formed(Kind::Command, packet) {
-        return Due::Refused(Refusal::MalformedPacket);
+        return Err(Refusal::MalformedPacket);
     }
     if MOST_PAGES < packet.len() {
-        return Due::Refused(Refusal::PacketTooLong);
+        return Err(Refusal::PacketTooLong);
     }
     let total = pages(packet.len());
     if part::no_such_part(total, number) {
-        return Due::Refused(Refusal::PartNumber);
+        return Err(Refusal::PartNumber);
     }
-    Due::Total(total)
+    Ok(total)
 }
 
 // The page parameter: the number in the high four bits, the total in the low ones.
@@ -92,6 +98,6 @@ pub(crate) fn write(
     put_header(serial, identifier, dcs, parameter(total, number), out);
     let own = own_octets(number, packet);
     octets::put(own, out, 6);
-    part::fill(out, 6 + own.len());
+    out[6 + own.len()..].fill(0);
     PAGE_OCTETS
 }

@@ -1,5 +1,5 @@
 // What messages and pages share: which numbers there are, and the octets of a part.
-ghost use Rattle.std.specs.Prelude.{◌≡◌, ◌++◌, ◌-◌, ◌≤◌, length, take, drop, replicate};
+ghost use Rattle.std.specs.Prelude.{◌≡◌, ◌≤◌, length, take, drop};
 ghost use Rattle.split.specs.Splitting.{no_such_part};
 
 // Whether no part has this number: it is 0 or above the total.
@@ -19,23 +19,4 @@ pub(crate) fn cut(packet: &[u8], from: usize, room: usize) -> &[u8]
     }
     let end = from + room;
     &packet[from..end]
-}
-
-// Writes 00 to all of a slice.
-fn clear(part: &mut [u8])
-    ensures { part.new ≡ replicate (length part.old) 0 }
-{
-    let mut i = 0;
-    while i < part.len() {
-        part[i] = 0;
-        i += 1;
-    }
-}
-
-// Writes 00 from a place on up to the end.
-pub(crate) fn fill(out: &mut [u8], at: usize)
-    requires { at ≤ length out.old }
-    ensures { out.new ≡ take at out.old ++ replicate (length out.old - at) 0 }
-{
-    clear(&mut out[at..]);
 }

@@ -1,4 +1,7 @@
 -- What the proofs of `ussd` cite: one law for each return or call, over plain variables.
+use Rattle.std.specs.declared.result.Result.{Result}
+use Rattle.std.specs.declared.result.Result.TheVariants.{Ok, Err}
+use Rattle.std.specs.List.{starts_with}
 use Prim.Native.Nat.{ℕ, ◌+◌, ◌≤◌, ◌<◌}
 use mathlib.Core.Path.{◌≡◌, refl, sym, ap, ◌∙◌}
 use mathlib.Core.Bool.{Bool, true, false, not, ◌&&◌, ◌||◌}
@@ -8,13 +11,11 @@ use lib.ListN.{length, get_or, take, drop}
 use lib.Seq.{drop-drop}
 use lib.Dec.{eqb, ltb, leb}
 use borrow.Author.Rules.{rules}
-use borrow.Author.Tests.{not-true, not-false, lt-ltb, le-ltb, lt-leb, le-leb, leb-true, eq-eqb, ne_eqb}
+use borrow.Author.Tests.{not-true, not-false, lt-ltb, le-ltb, lt-leb, le-leb, leb-true, eqb-true, eqb-false, eq-eqb, ne_eqb}
 use Rattle.octets.specs.Octets.{same_octets}
-use Rattle.octets.specs.Tests.{both}
+use Rattle.octets.specs.Tests.{both, by_test}
 use Rattle.types.specs.declared.Kind.TheVariants.{Command}
 use Rattle.types.specs.declared.Refusal.{Refusal}
-use Rattle.packet.specs.declared.read.Judged.{Judged}
-use Rattle.packet.specs.declared.read.Judged.TheVariants as judged
 use Rattle.types.specs.Refusals.{Outcome, refused, gives, refuse◌when◌otherwise◌, refusal_number, Lent, lent}
 use Rattle.packet.specs.Packets.{fields_behind, ciphered_behind, against_check, Parsed, measured, parsing_behind, shown, secured_of, check_of, opaque_of, data_by, check_by, opaque_by, summed}
 use Rattle.packet.specs.Judging.{told_judged, and_then, shown_by_lem}
@@ -67,8 +68,18 @@ pub um_told : (o : List ℕ) (x : ℕ) (f : Bool) → x ≡ get_or o 0 0 → f �
 um_told o x f e g = rw (e, g)
 
 -- ---- reading
-pub addressed_told : (pfi dcs : ℕ) (s t : List ℕ) (b : Bool) → t ≡ take 2 s → b ≡ same_octets t (pfi ∷ 3 ∷ []) → (eqb dcs 0x96 && b) ≡ addressed pfi dcs s
-addressed_told pfi dcs s t b e f = rw (f, e)
+eqb_turned : (a b : ℕ) → eqb a b ≡ eqb b a
+eqb_turned a b = by_test (eqb b a) (λ t. rw t (eq-eqb a b (sym (eqb-true b a t)))) (λ t. rw t (ne_eqb a b (λ e. eqb-false b a t (sym e))))
+
+-- the first two octets are these, told by a prefix
+begins : (a b : ℕ) (s : List ℕ) → starts_with eqb s (a ∷ b ∷ []) ≡ same_octets (take 2 s) (a ∷ b ∷ [])
+unfolding same_octets
+begins a b [] = refl
+begins a b (x ∷ []) = rw (eqb_turned a x)
+begins a b (x ∷ (y ∷ s)) = rw (eqb_turned a x, eqb_turned b y)
+
+pub addressed_told : (pfi dcs : ℕ) (s : List ℕ) (b : Bool) → b ≡ starts_with eqb s (pfi ∷ 3 ∷ []) → (eqb dcs 0x96 && b) ≡ addressed pfi dcs s
+addressed_told pfi dcs s b e = rw (e, begins pfi 3 s)
 
 pub start_in : (s u : List ℕ) (m : ℕ) → u ≡ drop 1 s → (m ≡ um_start u) × (m ≤ 5) → 1 + m ≡ 1 + um_start (drop 1 s)
 start_in s u m e f = rw (f.0, e)
@@ -96,7 +107,7 @@ module _ (pfi dcs : ℕ) (s : List ℕ) (l : length s ≤ 160) (a : Bool) (e : a
       let r : m ≡ um_chl (drop 1 s) = q ∙ p ∙ rw f in rw r (opens pfi dcs s (gives (um_chl (drop 1 s))) l a e t u f w g i)
 
 -- what was asked first, and then what follows
-module _ (pfi dcs : ℕ) (s : List ℕ) (j : Judged) (e : told_judged j ≡ string_opened pfi dcs s (gives (um_chl (drop 1 s)))) where
+module _ (pfi dcs : ℕ) (s : List ℕ) (j : Result ℕ Refusal) (e : told_judged j ≡ string_opened pfi dcs s (gives (um_chl (drop 1 s)))) where
   opened_then : {A : Type 0} (o : Outcome A) → string_opened pfi dcs s o ≡ and_then (string_opened pfi dcs s (gives (um_chl (drop 1 s)))) o
   opened_then o = go (ltb 160 (length s)) (addressed pfi dcs s) (um_formed (drop 1 s))
     where
@@ -107,7 +118,7 @@ module _ (pfi dcs : ℕ) (s : List ℕ) (j : Judged) (e : told_judged j ≡ stri
       go false true false = refl
       go false true true = refl
 
-  module _ (r : Refusal) (t : j ≡ judged.Refused r) where
+  module _ (r : Refusal) (t : j ≡ Err r) where
     opened_refused : {A : Type 0} (o : Outcome A) → refused (refusal_number r) ≡ string_opened pfi dcs s o
     opened_refused o = rw (opened_then o, ← e, t)
 
@@ -118,7 +129,7 @@ module _ (pfi dcs : ℕ) (s : List ℕ) (j : Judged) (e : told_judged j ≡ stri
     unfolding read_ussd
     read_refused = opened_refused (refuse 15 when against_check Command (um_fields (drop 1 s)) otherwise gives (measured (um_fields (drop 1 s))))
 
-  module _ (h : ℕ) (t : j ≡ judged.Readable h) where
+  module _ (h : ℕ) (t : j ≡ Ok h) where
     opened_on : {A : Type 0} (o : Outcome A) → o ≡ string_opened pfi dcs s o
     opened_on o = sym (rw (opened_then o, ← e, t))
 
@@ -158,7 +169,7 @@ module _ (pfi dcs : ℕ) (s : List ℕ) (j : Judged) (e : told_judged j ≡ stri
           (opened_on (refuse 15 when against_check Command (um_fields (drop 1 s)) otherwise gives (measured (um_fields (drop 1 s)))))
 
 -- ---- showing
-module _ (pfi dcs : ℕ) (s : List ℕ) (j : Judged) (e : told_judged j ≡ readable_ussd pfi dcs s (gives (um_chl (drop 1 s)))) where
+module _ (pfi dcs : ℕ) (s : List ℕ) (j : Result ℕ Refusal) (e : told_judged j ≡ readable_ussd pfi dcs s (gives (um_chl (drop 1 s)))) where
   judged_then : {A : Type 0} (o : Outcome A) → readable_ussd pfi dcs s o ≡ and_then (told_judged j) o
   judged_then o = go (ltb 160 (length s)) (addressed pfi dcs s) (um_formed (drop 1 s)) (against_check Command (um_fields (drop 1 s))) ∙ rw (← e)
     where
@@ -247,7 +258,6 @@ pub ruleset steps = (
   formed_told,
   count_told,
   um_told,
-  addressed_told,
   start_in,
   long_refused,
   other_refused,

@@ -7,16 +7,14 @@ ghost use Rattle.ussd.specs.Ussd.{um_chl, um_start, addressed, readable_ussd, re
 ghost use Rattle.ussd.specs.Within.{string_opened};
 
 use crate::um;
-use packet::read::Judged;
 use packet::{behind, show};
-use types::{Kind, ParsedCommand, Refusal, USSD_DCS, USSD_OCTETS};
+use types::{Command, Kind, Refusal, USSD_DCS, USSD_OCTETS};
 
 // Whether a string comes with the DCS of binary data, and begins with this PFI and the identifier of a command.
 fn is_addressed(pfi: u8, dcs: u8, string: &[u8]) -> bool
     ensures { result ≡ addressed pfi dcs string.now }
 {
-    let start = [pfi, um::COMMAND_IDENTIFIER];
-    let same = octets::same(octets::up_to(string, 2), &start);
+    let same = string.starts_with(&[pfi, um::COMMAND_IDENTIFIER]);
     (dcs == USSD_DCS) & same
 }
 
@@ -28,37 +26,32 @@ fn um_of(string: &[u8]) -> &[u8]
 }
 
 // What is asked of a string before what is behind its lengths: 2, 5, 9, or its header length.
-fn open(pfi: u8, dcs: u8, string: &[u8]) -> Judged
+fn open(pfi: u8, dcs: u8, string: &[u8]) -> Result<usize, Refusal>
     ensures { told_judged result ≡ string_opened pfi dcs string.now (gives (um_chl (drop 1 string.now))) }
 {
     if USSD_OCTETS < string.len() {
-        return Judged::Refused(Refusal::InputLength);
+        return Err(Refusal::InputLength);
     }
     if !is_addressed(pfi, dcs, string) {
-        return Judged::Refused(Refusal::WrongIdentifier);
+        return Err(Refusal::WrongIdentifier);
     }
     let um = um_of(string);
     if !um::formed(um) {
-        return Judged::Refused(Refusal::MalformedPacket);
+        return Err(Refusal::MalformedPacket);
     }
-    Judged::Readable(octets::wide(um::header_of(um)))
+    Ok(octets::wide(um::header_of(um)))
 }
 
 // Whether a string can be read: 2, 5, 9, then 15.
-fn judge(pfi: u8, dcs: u8, string: &[u8]) -> Judged
+fn judge(pfi: u8, dcs: u8, string: &[u8]) -> Result<usize, Refusal>
     ensures { told_judged result ≡ readable_ussd pfi dcs string.now (gives (um_chl (drop 1 string.now))) }
 {
-    let judged = open(pfi, dcs, string);
-    match judged {
-        Judged::Refused(refusal) => Judged::Refused(refusal),
-        Judged::Readable(header) => {
-            let rest = um::behind_um(um_of(string));
-            if behind::against_check(Kind::Command, behind::ciphered(rest), header, rest) {
-                return Judged::Refused(Refusal::CheckMismatch);
-            }
-            Judged::Readable(header)
-        }
+    let header = open(pfi, dcs, string)?;
+    let rest = um::behind_um(um_of(string));
+    if behind::against_check(Kind::Command, behind::ciphered(rest), header, rest) {
+        return Err(Refusal::CheckMismatch);
     }
+    Ok(header)
 }
 
 // Where what is behind the lengths begins in a string.
@@ -70,18 +63,13 @@ fn start_in(string: &[u8]) -> usize
 
 // Reads a string that came with this DCS, for the application of this PFI: the fields of its command, or refusal 2, 5, 9 or 15. PFI is compared
 // with the string's first octet; its bits are not judged.
-pub fn read_ussd(pfi: u8, dcs: u8, string: &[u8]) -> ParsedCommand
+pub fn read_ussd(pfi: u8, dcs: u8, string: &[u8]) -> Result<Command, Refusal>
     ensures { told_command result ≡ read_ussd pfi dcs string.now }
 {
-    let judged = open(pfi, dcs, string);
-    match judged {
-        Judged::Refused(refusal) => ParsedCommand::Refused(refusal),
-        Judged::Readable(_) => {
-            let um = um_of(string);
-            let rest = um::behind_um(um);
-            behind::command(behind::ciphered(rest), um::header_of(um), rest)
-        }
-    }
+    open(pfi, dcs, string)?;
+    let um = um_of(string);
+    let rest = um::behind_um(um);
+    behind::command(behind::ciphered(rest), um::header_of(um), rest)
 }
 
 // ---- parts of the lent string; of one that is refused or has the other body, the empty part at its start

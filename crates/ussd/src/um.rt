@@ -92,7 +92,7 @@ fn count(coded: &[u8]) -> usize
 }
 
 // Whether both lengths are well formed, CPL counts all from CHL's first octet on, and CHL has room for the fixed fields and is within that.
-fn lengths_right<'a>(cpl: &'a [u8], chl: &'a [u8]) -> bool
+fn lengths_right(cpl: &[u8], chl: &[u8]) -> bool
     ensures { result ≡ lengths_right cpl.now chl.now }
 {
     let whole = count(cpl);

@@ -1,4 +1,6 @@
 -- What the proofs of `ussd_write` cite: one law for each return or call, over plain variables.
+use Rattle.std.specs.declared.result.Result.{Result}
+use Rattle.std.specs.declared.result.Result.TheVariants.{Ok, Err}
 use Prim.Native.Nat.{ℕ, ◌+◌, ◌-◌, ◌%◌, ◌≤◌, ◌<◌}
 use mathlib.Core.Path.{◌≡◌, refl, sym, ap, ◌∙◌}
 use mathlib.Core.Bool.{Bool, true, false, ◌||◌}
@@ -13,8 +15,6 @@ use Rattle.octets.specs.Laws.{put_fits, placed_start, placed_behind, put_behind}
 use Rattle.octets.specs.Tests.{neither}
 use Rattle.types.specs.declared.Kind.TheVariants.{Command}
 use Rattle.types.specs.declared.Refusal.{Refusal}
-use Rattle.build.specs.declared.Ruling.{Ruling}
-use Rattle.build.specs.declared.Ruling.TheVariants as ruling
 use Rattle.types.specs.Refusals.{Outcome, refused, gives, refusal_number, Lent, lent, writes}
 use Rattle.packet.specs.Packets.{Fields, plain, ciphered, against_bits, against_check, against_spi, misfit}
 use Rattle.packet.specs.Judging.{and_then}
@@ -117,8 +117,8 @@ module _ (d f g b x z : List ℕ) (pfi h s at : ℕ) (size : (h ≤ 255) × (len
       rw (n, v ∙ placed_start d (pfi ∷ um_from h q))
 
 -- ---- writing: either body
-module _ (d f g b : List ℕ) (a m u l : Bool) (size : ℕ) (s : l ≡ over_um size (length f + (length g + length b))) (j : Ruling)
-    (e : told_ruling j ≡ ruled 160 (length d) a m u l (gives 0)) (t : j ≡ ruling.Allowed) where
+module _ (d f g b : List ℕ) (a m u l : Bool) (size : ℕ) (s : l ≡ over_um size (length f + (length g + length b))) (j : Result Unit Refusal)
+    (e : told_ruling j ≡ ruled 160 (length d) a m u l (gives 0)) (t : j ≡ (Ok tt)) where
   is_allowed : (length d ≡ 160) × (l ≡ false)
   is_allowed = allowed 160 (length d) a m u l (sym (ap told_ruling t) ∙ e)
 
@@ -130,7 +130,7 @@ module _ (d f g b : List ℕ) (a m u l : Bool) (size : ℕ) (s : l ≡ over_um s
       let n = length (length_octets size) + (length f + (length g + length b)) in
       ltb-false 156 n (sym (cpl_over n) ∙ (sym s ∙ is_allowed.1))
 
-module _ (d f g b : List ℕ) (a m u l : Bool) (h size : ℕ) (same : size ≡ h) (s : l ≡ over_um size (length f + (length g + length b))) (j : Ruling)
+module _ (d f g b : List ℕ) (a m u l : Bool) (h size : ℕ) (same : size ≡ h) (s : l ≡ over_um size (length f + (length g + length b))) (j : Result Unit Refusal)
     (e : told_ruling j ≡ ruled 160 (length d) a m u l (gives 0)) where
   abbrev the_um : List ℕ
   the_um = um_from h (f ++ (g ++ b))
@@ -149,13 +149,13 @@ module _ (d f g b : List ℕ) (a m u l : Bool) (h size : ℕ) (same : size ≡ h
         ∙ ap (λ (y : Outcome ℕ). and_then y (gives (pfi ∷ the_um))) (sym e) in
         ap (λ (y : Outcome (List ℕ)). writes y d) v
 
-    pub tried_refused : (r : Refusal) → j ≡ ruling.Refused r → lent (refused (refusal_number r)) d ≡ tried_ussd pfi a m u the_um d
+    pub tried_refused : (r : Refusal) → j ≡ Err r → lent (refused (refusal_number r)) d ≡ tried_ussd pfi a m u the_um d
     tried_refused r t = sym (as_ruled ∙ rw t)
 
-    pub tried_written : j ≡ ruling.Allowed → (w : Lent) → w ≡ writes (gives (pfi ∷ um_from size (f ++ (g ++ b)))) d → w ≡ tried_ussd pfi a m u the_um d
+    pub tried_written : j ≡ (Ok tt) → (w : Lent) → w ≡ writes (gives (pfi ∷ um_from size (f ++ (g ++ b)))) d → w ≡ tried_ussd pfi a m u the_um d
     tried_written t w v =
         v ∙ ap (λ (y : ℕ). writes (gives (pfi ∷ um_from y (f ++ (g ++ b)))) d) same
-        ∙ sym (as_ruled ∙ ap (λ (y : Ruling). writes (and_then (told_ruling y) (gives (pfi ∷ the_um))) d) t)
+        ∙ sym (as_ruled ∙ ap (λ (y : Result Unit Refusal). writes (and_then (told_ruling y) (gives (pfi ∷ the_um))) d) t)
 
 -- the fields of a command, and what is written of them
 same_written : (pfi : ℕ) (x : Fields) (d q : List ℕ) (a m u : Bool) → against_spi Command x ≡ a → misfit Command x ≡ m → against_check Command x ≡ u

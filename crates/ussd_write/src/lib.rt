@@ -10,9 +10,8 @@ ghost use Rattle.build.specs.Within.{against_octet};
 ghost use Rattle.ussd.specs.Ussd.{length_octets, um_from, written_ussd};
 ghost use Rattle.ussd_write.specs.Within.{lead_octets, over_um, tried_ussd};
 
-use build::Ruling;
 use packet::layout;
-use types::{Clear, Cntr, Kind, UM_OCTETS, USSD_OCTETS, Written};
+use types::{Clear, Cntr, Kind, Refusal, UM_OCTETS, USSD_OCTETS};
 use ussd::um;
 
 // ---- lengths
@@ -94,13 +93,13 @@ fn write_fields(
     front: &[u8],
     back: &[u8],
     out: &mut [u8],
-) -> Written
+) -> Result<usize, Refusal>
     requires { (1 ≤ length fixed.now) × (length fixed.now ≤ 13) }
     ensures { lent (told_written result) out.new ≡ tried_ussd pfi (against_octet Kind.Command (get_or fixed.now 0 0) ciphered) misfit unchecked (um_from header (fixed.now ++ (front.now ++ back.now))) out.old }
 {
     let size = octets::wide(header);
     let long = over(size, fixed.len(), front.len(), back.len());
-    let ruled = build::rule(
+    build::rule(
         Kind::Command,
         USSD_OCTETS,
         out.len(),
@@ -109,15 +108,18 @@ fn write_fields(
         misfit,
         unchecked,
         long,
-    );
-    match ruled {
-        Ruling::Refused(refusal) => Written::Refused(refusal),
-        Ruling::Allowed => Written::Octets(write(pfi, size, fixed, front, back, out)),
-    }
+    )?;
+    Ok(write(pfi, size, fixed, front, back, out))
 }
 
 // Writes a plain body behind its fixed fields.
-fn write_plain(pfi: u8, fixed: &[u8], check: &[u8], secured: &[u8], out: &mut [u8]) -> Written
+fn write_plain(
+    pfi: u8,
+    fixed: &[u8],
+    check: &[u8],
+    secured: &[u8],
+    out: &mut [u8],
+) -> Result<usize, Refusal>
     requires { length fixed.now ≡ 13 }
     ensures { lent (told_written result) out.new ≡ written_ussd pfi (plain fixed.now check.now secured.now) out.old }
 {
@@ -130,7 +132,13 @@ fn write_plain(pfi: u8, fixed: &[u8], check: &[u8], secured: &[u8], out: &mut [u
 }
 
 // Writes a ciphered body behind the fields in the clear.
-fn write_opaque(pfi: u8, fixed: &[u8], header: u16, opaque: &[u8], out: &mut [u8]) -> Written
+fn write_opaque(
+    pfi: u8,
+    fixed: &[u8],
+    header: u16,
+    opaque: &[u8],
+    out: &mut [u8],
+) -> Result<usize, Refusal>
     requires { length fixed.now ≡ 7 }
     ensures { lent (told_written result) out.new ≡ written_ussd pfi (ciphered fixed.now header opaque.now) out.old }
 {
@@ -158,7 +166,7 @@ pub fn write_ussd(
     check: &[u8],
     data: &[u8],
     out: &mut [u8],
-) -> Written
+) -> Result<usize, Refusal>
     ensures { lent (told_written result) out.new ≡ written_ussd pfi (plain (command_fixed clear cntr pcntr) check.now «data».now) out.old }
 {
     let spi = clear.spi;
@@ -177,7 +185,7 @@ pub fn write_ciphered_ussd(
     header: u16,
     opaque: &[u8],
     out: &mut [u8],
-) -> Written
+) -> Result<usize, Refusal>
     ensures { lent (told_written result) out.new ≡ written_ussd pfi (ciphered (clear_octets clear) header opaque.now) out.old }
 {
     let spi = clear.spi;

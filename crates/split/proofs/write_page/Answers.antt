@@ -2,8 +2,11 @@
 use Rattle.split.proofs.Steps.{steps}
 use Rattle.split.proofs.write_page.Goals as goal
 
-pub returns-in-Refused : goal.returns-in-Refused
-returns-in-Refused c = search steps
+pub write-length-requires : goal.write-length-requires
+write-length-requires c = search (steps, c.in_ok-total.was)
 
-pub returns-in-Total : goal.returns-in-Total
-returns-in-Total c = search steps
+pub returns-in_err-total : goal.returns-in_err-total
+returns-in_err-total c = search steps
+
+pub returns : goal.returns
+returns c = search (steps, c.in_ok-total.was)

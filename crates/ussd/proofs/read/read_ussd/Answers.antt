@@ -2,8 +2,8 @@
 use Rattle.ussd.proofs.Steps.{steps}
 use Rattle.ussd.proofs.read.read_ussd.Goals as goal
 
-pub returns-in-Refused : goal.returns-in-Refused
-returns-in-Refused c = search steps
+pub returns-in_err-open : goal.returns-in_err-open
+returns-in_err-open c = search steps
 
-pub returns-in-Readable : goal.returns-in-Readable
-returns-in-Readable c = search steps
+pub returns : goal.returns
+returns c = search (steps, c.in_ok-open.was)
