@@ -1,9 +1,11 @@
 -- The beat (02 [6], "Give up what is dead").
+use Rattle.std.specs.declared.result.Result.{Result}
+use Rattle.std.specs.declared.result.Result.TheVariants.{Ok, Err}
+use Rattle.types.specs.declared.Refusal.{Refusal}
 use Rattle.std.specs.Prelude.{ℕ, suc, Bool, not, cond, ◌&&◌, List, map, eqb, leb}
 use Rattle.types.specs.Refusals.{Outcome, refused, gives, refusal_number, refuse◌when◌otherwise◌}
 use Rattle.types.specs.declared.Slot.{Slot}
 use Rattle.types.specs.declared.Record.{Record}
-use Rattle.types.specs.declared.Beating as declared
 use Rattle.slots.specs.Below.{count_below}
 use Rattle.slots.specs.Slots.{most_slots, slot_at, used, free_slot, at_count, with_slots}
 use Rattle.formed.specs.Formed.{record_formed}
@@ -37,9 +39,9 @@ pub record AfterBeat : Type 0 where
 abbrev pub beaten : Outcome ℕ → Record → AfterBeat
 beaten answer r = record { answer = answer; rec = r }
 
-abbrev pub told_beating : declared.Beating → Outcome ℕ
-told_beating (declared.TheVariants.Dropped m) = gives m
-told_beating (declared.TheVariants.Refused r) = refused (refusal_number r)
+abbrev pub told_beating : Result ℕ Refusal → Outcome ℕ
+told_beating (Ok m) = gives m
+told_beating (Err r) = refused (refusal_number r)
 
 -- "the beat gives 1 for a malformed record, then 18 for limit 0"
 abbrev pub beating : ℕ → Record → ℕ → Outcome ℕ

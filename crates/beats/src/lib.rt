@@ -6,7 +6,7 @@ ghost use Rattle.beats.specs.Beats.{raised, reached, after_beat, beaten, told_be
 
 use formed::record_formed;
 use slots::find::free_slot;
-use types::{Beaten, Beating, Record, Refusal, SLOTS, Slot};
+use types::{Beaten, Record, Refusal, SLOTS, Slot};
 
 // Whether one beat more drops the series of the slot. One less than the limit is looked at, so that no count is raised past an octet.
 fn is_dead(x: Slot, limit: u8) -> bool
@@ -28,9 +28,10 @@ fn after_beat(x: Slot, limit: u8) -> Slot
     if x.rank == 0 {
         return x;
     }
-    let mut y = x;
-    y.beats = y.beats + 1;
-    y
+    Slot {
+        beats: x.beats + 1,
+        ..x
+    }
 }
 
 // A beat: every series is one beat older, and each that has reached the limit is dropped.
@@ -39,26 +40,24 @@ pub fn beat(mut state: Record, limit: u8) -> Beaten
 {
     if !record_formed(state) {
         return Beaten {
-            answer: Beating::Refused(Refusal::BufferOrRecord),
+            answer: Err(Refusal::BufferOrRecord),
             record: state,
         };
     }
     if limit == 0 {
         return Beaten {
-            answer: Beating::Refused(Refusal::BeatLimit),
+            answer: Err(Refusal::BeatLimit),
             record: state,
         };
     }
     let mut dropped = 0;
-    let mut i = 0;
-    while i < SLOTS {
+    for i in 0..SLOTS {
         let x = state.slots[i];
-        dropped = dropped + (is_dead(x, limit) as u8);
+        dropped += is_dead(x, limit) as u8;
         state.slots[i] = after_beat(x, limit);
-        i = i + 1;
     }
     Beaten {
-        answer: Beating::Dropped(dropped),
+        answer: Ok(dropped),
         record: state,
     }
 }

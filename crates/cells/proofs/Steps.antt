@@ -1,4 +1,6 @@
 -- What the proofs of `cells` search: one law for each return, call and turn of a loop, over plain variables.
+use Rattle.std.specs.declared.option.Option as option
+use Rattle.std.specs.declared.option.Option.TheVariants.{Some}
 use Prim.Native.Nat.{ℕ, zero, suc, ◌+◌, ◌-◌, ◌*◌, ◌≤◌, ◌<◌}
 use mathlib.Core.Path.{◌≡◌, sym, ap, ◌∙◌}
 use mathlib.Core.Bool.{Bool, true, false, not, ◌&&◌, and-false}
@@ -18,8 +20,6 @@ use Rattle.octets.specs.Laws.{put_fits, length_placed}
 use Rattle.types.specs.declared.Kind.{Kind}
 use Rattle.arrival.specs.Message.{most_parts}
 use Rattle.joined.specs.declared.Front.{Front}
-use Rattle.joined.specs.declared.Size.{Size}
-use Rattle.joined.specs.declared.Size.TheVariants as size
 use Rattle.joined.specs.Fronts.{packet_in, front_of, most_counted, extended, size_by, told_size, length_in, output_with}
 use Rattle.joined.specs.Laws.{front_more, extended_more, none_told, none_kept, packet_inside, packet_fits, packet_told, packet_written}
 use Rattle.slots.specs.Slots.{most_slots}
@@ -196,7 +196,7 @@ module _ (k : Kind) (paged : Bool) (cells lengths : List ℕ) (total s number : 
           (series_reached cells lengths total s part b told e) (series_lengths cells lengths total s part b told e)
           (series_total cells lengths total s part b told e) (series_part cells lengths total s part b told e) (rw front at l)
 
-      pub series_told : (z : Size) → told_size z ≡ length_in (packet_in k paged total octets) → told_size z ≡ length_in due
+      pub series_told : (z : option.Option ℕ) → told_size z ≡ length_in (packet_in k paged total octets) → told_size z ≡ length_in due
       series_told z h = rw whole h
 
       pub series_written : (x : List ℕ) → x ≡ output_with (packet_in k paged total octets) d → x ≡ output_with due d
@@ -214,8 +214,8 @@ module _ (k : Kind) (paged : Bool) (cells lengths : List ℕ) (total s number : 
     short_kept = rw (too_short, and-false)
 
 -- the packet's octets are among those joined, and fit the output
-module _ (k : Kind) (paged : Bool) (total : ℕ) (o d : List ℕ) (f : Front) (front : f ≡ front_of o) (z : Size) (sized : told_size z ≡ size_by k paged total f)
-    (m : ℕ) (q : z ≡ size.Octets m) where
+module _ (k : Kind) (paged : Bool) (total : ℕ) (o d : List ℕ) (f : Front) (front : f ≡ front_of o) (z : option.Option ℕ) (sized : told_size z ≡ size_by k paged total f)
+    (m : ℕ) (q : z ≡ Some m) where
   pub limit_inside : m ≤ length o
   limit_inside = packet_inside k paged total o f z front sized m q
 

@@ -15,18 +15,14 @@ use types::{PART_OCTETS, PARTS, SLOT_OCTETS, SLOTS};
 pub(crate) fn reaches(size: usize, s: usize) -> bool
     ensures { result ≡ reaches size s }
 {
-    if s < SLOTS {
-        return (s + 1) * SLOT_OCTETS <= size;
-    }
-    false
+    s < SLOTS && (s + 1) * SLOT_OCTETS <= size
 }
 
 // Whether it has the cell of part k of slot s.
 fn has_cell(size: usize, s: usize, k: usize) -> bool
     ensures { result ≡ has_cell size s k }
 {
-    let there = reaches(size, s);
-    there & (0 < k) & (k <= PARTS)
+    reaches(size, s) & (0 < k) & (k <= PARTS)
 }
 
 // Where part k of slot s begins.
@@ -60,10 +56,7 @@ pub fn store(cells: &mut [u8], s: usize, k: usize, part: &[u8])
 pub fn same_part(cells: &[u8], s: usize, k: usize, n: u8, part: &[u8]) -> bool
     ensures { result ≡ (has_cell (length cells.now) s k && same_octets (cell_start cells.now s k n) part.now) }
 {
-    if has_cell(cells.len(), s, k) {
-        return octets::same(cell(cells, s, k, octets::wide(n)), part);
-    }
-    false
+    has_cell(cells.len(), s, k) && octets::same(cell(cells, s, k, octets::wide(n)), part)
 }
 
 // Part k of a series, where it is: the part that arrives if k is its number, and otherwise the one that the cells hold.
@@ -83,6 +76,5 @@ pub(crate) fn piece<'a>(
     if k == number {
         return part;
     }
-    let i = k - 1;
-    cell(cells, s, k, octets::wide(lengths[i]))
+    cell(cells, s, k, octets::wide(lengths[k - 1]))
 }

@@ -9,10 +9,11 @@ ghost use Rattle.cells.specs.Cells.{cell_octets};
 ghost use Rattle.cells.specs.Handing.{Reaches, series_octets, joins, series_packet};
 
 use crate::{piece, reaches};
-use joined::{Front, Size};
+use joined::Front;
 use types::{Kind, PART_OCTETS, PARTS};
 
 // ---- the front
+// The parameters of a series stay apart, here and below: `hand_out` may not change, and a struct would be made and taken apart by it alone.
 // The front of what the parts of a series join to.
 fn joined_front<'a>(
     cells: &'a [u8],
@@ -28,10 +29,8 @@ fn joined_front<'a>(
     ensures { result ≡ front_of (series_octets cells.now lengths.now total s number part.now) }
 {
     let mut f = joined::no_front();
-    let mut k = 0;
-    while k < total {
-        k = k + 1;
-        f = joined::extended(f, piece(cells, lengths, s, k, number, part));
+    for k in 0..total {
+        f = joined::extended(f, piece(cells, lengths, s, k + 1, number, part));
     }
     f
 }
@@ -66,10 +65,9 @@ fn join<'a>(
     ensures { out.new ≡ take limit (series_octets cells.now lengths.now total s number part.now) ++ drop limit out.old }
 {
     let mut at = 0;
-    let mut k = 0;
-    while k < total {
-        k = k + 1;
-        at = put_up_to(piece(cells, lengths, s, k, number, part), limit, out, at);
+    for k in 0..total {
+        let p = piece(cells, lengths, s, k + 1, number, part);
+        at = put_up_to(p, limit, out, at);
     }
 }
 
@@ -79,8 +77,7 @@ fn join<'a>(
 fn joins(size: usize, lengths: usize, total: usize, s: usize, part: usize) -> bool
     ensures { result ≡ joins size lengths total s part }
 {
-    let there = reaches(size, s);
-    there & (lengths == PARTS) & (total <= PARTS) & (part <= PART_OCTETS)
+    reaches(size, s) & (lengths == PARTS) & (total <= PARTS) & (part <= PART_OCTETS)
 }
 
 // Hands out the packet that parts with that front join to: it stands at the start of out, whose rest stays. Where they join to none, all of out
@@ -96,7 +93,7 @@ fn write_packet<'a>(
     part: &'a [u8],
     front: Front,
     out: &mut [u8],
-) -> Size
+) -> Option<usize>
     requires s_lt_most_slots { (s < most_slots) × (total ≤ most_parts) }
     requires lengths_len { length lengths.now ≡ most_parts }
     requires reaches { Reaches s cells.now }
@@ -105,14 +102,9 @@ fn write_packet<'a>(
     ensures result_value { told_size result ≡ length_in (packet_in kind paged total (series_octets cells.now lengths.now total s number part.now)) }
     ensures out_after { out.new ≡ output_with (packet_in kind paged total (series_octets cells.now lengths.now total s number part.now)) out.old }
 {
-    let size = joined::packet_size(kind, paged, total as u8, front);
-    match size {
-        Size::Octets(n) => {
-            join(cells, lengths, total, s, number, part, n, out);
-            Size::Octets(n)
-        }
-        Size::None => Size::None,
-    }
+    let size = joined::packet_size(kind, paged, total as u8, front)?;
+    join(cells, lengths, total, s, number, part, size, out);
+    Some(size)
 }
 
 // Hands out the packet that the parts of a series join to: it stands at the start of out, whose rest stays. Where they join to none, or out has
@@ -127,16 +119,16 @@ pub fn hand_out<'a>(
     number: usize,
     part: &'a [u8],
     out: &mut [u8],
-) -> Size
+) -> Option<usize>
     ensures result_value { told_size result ≡ length_in (series_packet kind paged cells.now lengths.now total s number part.now (length out.old)) }
     ensures out_after { out.new ≡ output_with (series_packet kind paged cells.now lengths.now total s number part.now (length out.old)) out.old }
 {
     if !joins(cells.len(), lengths.len(), total, s, part.len()) {
-        return Size::None;
+        return None;
     }
     let front = joined_front(cells, lengths, total, s, number, part);
     if out.len() < front.count {
-        return Size::None;
+        return None;
     }
     write_packet(
         kind, paged, cells, lengths, total, s, number, part, front, out,

@@ -11,13 +11,22 @@ ghost use Rattle.formed.specs.Pieces.{fewest, most, slots_hold, pair_apart, slot
 
 use arrival::keys::{in_range, is_pageless, reference_fits, room};
 use slots::find::same_key;
-use types::{Key, Kind, PAGE_CONTENT, PARTS, Record, SLOTS, Slot};
+use types::{Key, Kind, MessageIdentifier, PAGE_CONTENT, PARTS, Record, SLOTS, SerialNumber, Slot};
+
+// The key of a free slot.
+const NO_KEY: Key = Key {
+    sender: 0,
+    width: 0,
+    reference: 0,
+    serial: SerialNumber(0),
+    identifier: MessageIdentifier(0),
+};
 
 // A flag as a number, to count it.
 pub fn one(flag: bool) -> u8
     ensures { (result ≡ cond flag 1 0) × (result ≤ 1) }
 {
-    if flag { 1 } else { 0 }
+    u8::from(flag)
 }
 
 // Whether a key with a width is one of a short message: its reference fits the width, and what only pages have is zero.
@@ -32,9 +41,7 @@ fn message_key_formed(key: Key) -> bool
 fn page_key_formed(kind: Kind, key: Key) -> bool
     ensures { result ≡ page_key_formed kind key }
 {
-    let none = is_pageless(kind);
-    let inside = in_range(key.identifier);
-    !none & (key.sender == 0) & (key.reference == 0) & inside
+    !is_pageless(kind) & (key.sender == 0) & (key.reference == 0) & in_range(key.identifier)
 }
 
 // Whether a key is one that reading gives for a record of that kind.
@@ -80,11 +87,7 @@ pub fn most(key: Key, number: usize) -> u8
 fn zero_key(key: Key) -> bool
     ensures { result ≡ zero_key key }
 {
-    (key.sender == 0)
-        & (key.width == 0)
-        & (key.reference == 0)
-        & (key.serial.0 == 0)
-        & (key.identifier.0 == 0)
+    key == NO_KEY
 }
 
 // Whether no part of the slot is marked or has a length. Faults are gathered in an octet here and below, and no test leaves the loop, so that
@@ -93,13 +96,9 @@ fn zero_parts(x: Slot) -> bool
     ensures { result ≡ all_below most_parts (zero_part x) }
 {
     let mut bad = 0;
-    let mut i = 0;
-    while i < PARTS {
-        let h = x.held[i];
-        let n = x.lengths[i];
-        let wrong = h | (n != 0);
-        bad = bad | (wrong as u8);
-        i = i + 1;
+    for i in 0..PARTS {
+        let wrong = x.held[i] | (x.lengths[i] != 0);
+        bad |= wrong as u8;
     }
     bad == 0
 }
@@ -108,9 +107,7 @@ fn zero_parts(x: Slot) -> bool
 fn all_zero(x: Slot) -> bool
     ensures { result ≡ all_zero x }
 {
-    let key = x.key;
-    let none = zero_parts(x);
-    zero_key(key) & (x.total == 0) & (x.beats == 0) & none
+    zero_key(x.key) & (x.total == 0) & (x.beats == 0) & zero_parts(x)
 }
 
 // Whether each part of a used slot is as it can be. The bounds of a length depend on the key alone, but for part 1, which is looked at by
@@ -123,17 +120,14 @@ fn parts_formed(x: Slot) -> bool
     let high = most(key, 2);
     let total = x.total;
     let mut bad = 0;
-    let mut i = 0;
-    while i < PARTS {
+    for i in 0..PARTS {
         let h = x.held[i];
         let n = x.lengths[i];
         let out = (total <= i as u8) | (n < low) | (high < n);
         let wrong = (h & out) | (!h & (n != 0));
-        bad = bad | (wrong as u8);
-        i = i + 1;
+        bad |= wrong as u8;
     }
-    let first = x.lengths[0];
-    (bad == 0) & (first <= most(key, 1))
+    (bad == 0) & (x.lengths[0] <= most(key, 1))
 }
 
 // How many parts the slot holds.
@@ -141,11 +135,8 @@ fn held_count(x: Slot) -> u8
     ensures { result ≡ held_count x }
 {
     let mut m = 0;
-    let mut i = 0;
-    while i < PARTS {
-        let h = x.held[i];
-        m = m + one(h);
-        i = i + 1;
+    for i in 0..PARTS {
+        m += one(x.held[i]);
     }
     m
 }
@@ -154,15 +145,12 @@ fn held_count(x: Slot) -> u8
 fn used_formed(kind: Kind, x: Slot) -> bool
     ensures { result ≡ used_formed kind x }
 {
-    let key = x.key;
-    let total = x.total;
     let m = held_count(x);
-    let parts = parts_formed(x);
-    key_formed(kind, key)
-        & total_fits(key, total)
-        & parts
+    key_formed(kind, x.key)
+        & total_fits(x.key, x.total)
+        & parts_formed(x)
         & (0 < m)
-        & (m < total)
+        & (m < x.total)
         & (x.beats <= 254)
 }
 
@@ -170,8 +158,7 @@ fn used_formed(kind: Kind, x: Slot) -> bool
 fn slot_formed(kind: Kind, x: Slot) -> bool
     ensures { result ≡ slot_formed kind x }
 {
-    let free = x.rank == 0;
-    if free {
+    if x.rank == 0 {
         return all_zero(x);
     }
     used_formed(kind, x)
@@ -181,10 +168,7 @@ fn slot_formed(kind: Kind, x: Slot) -> bool
 fn key_twice(x: Slot, y: Slot) -> bool
     ensures { result ≡ (used x && used y && same_key x.key y.key) }
 {
-    let key = x.key;
-    let other = y.key;
-    let same = same_key(key, other);
-    (x.rank != 0) & (y.rank != 0) & same
+    (x.rank != 0) & (y.rank != 0) & same_key(x.key, y.key)
 }
 
 // Whether a used slot has a higher count of beats than a less recent one.
@@ -198,50 +182,39 @@ fn count_ahead(x: Slot, y: Slot) -> bool
 fn pair_apart(x: Slot, y: Slot) -> bool
     ensures { result ≡ pair_apart x y }
 {
-    let twice = key_twice(x, y);
-    let ahead = count_ahead(x, y);
-    let behind = count_ahead(y, x);
-    !twice & (!ahead & !behind)
+    !key_twice(x, y) & (!count_ahead(x, y) & !count_ahead(y, x))
 }
 
 // Whether each slot is well formed, those past the record's own are free, no two used slots have one key, and none has a higher count of beats than a
-// less recent one. One loop over the slots and over the pairs of each used one holds the record: each function that holds it copies it. The array has
-// as many slots as its type says.
+// less recent one. The loop over the pairs of each used slot stands here and has no function of its own: each function that holds the record copies
+// it. The array has as many slots as its type says.
 fn slots_hold(state: Record) -> bool
     ensures { (result ≡ (slots_hold state.count state.kind state.slots && slots_apart most_slots state.slots)) × (length state.slots ≡ most_slots) }
 {
     let kind = state.kind;
     let n = state.count as usize;
     let mut ok = true;
-    let mut i = 0;
-    let mut j = 0;
-    while i < SLOTS {
+    for i in 0..SLOTS {
         let x = state.slots[i];
-        let paired = (j < i) & (x.rank != 0);
-        if paired {
-            let y = state.slots[j];
-            ok = ok & pair_apart(x, y);
-            j = j + 1;
-        } else {
-            ok = ok & (slot_formed(kind, x) & ((i < n) | (x.rank == 0)));
-            i = i + 1;
-            j = 0;
+        let pairs = if x.rank == 0 { 0 } else { i };
+        for j in 0..pairs {
+            ok &= pair_apart(x, state.slots[j]);
         }
+        ok &= slot_formed(kind, x) & ((i < n) | (x.rank == 0));
     }
     ok
 }
 
-// Whether the ranks that are not 0 are 1, 2, .. without a gap: each number up to how many there are is one of the five.
+// Whether the ranks that are not 0 are 1, 2, .. without a gap: each number up to how many there are is one of the five. They are five numbers and no
+// array, so that they can stay in registers.
 fn gapless(a: u8, b: u8, c: u8, d: u8, e: u8) -> bool
     ensures { result ≡ gapless (five_of a b c d e) }
 {
     let m = one(a != 0) + one(b != 0) + one(c != 0) + one(d != 0) + one(e != 0);
     let mut ok = true;
-    let mut r = 0;
-    while r < m {
+    for r in 0..m {
         let k = r + 1;
-        ok = ok & ((a == k) | (b == k) | (c == k) | (d == k) | (e == k));
-        r = k;
+        ok &= (a == k) | (b == k) | (c == k) | (d == k) | (e == k);
     }
     ok
 }
@@ -250,12 +223,13 @@ fn gapless(a: u8, b: u8, c: u8, d: u8, e: u8) -> bool
 fn ranked(state: Record) -> bool
     ensures { result ≡ ranked most_slots state.slots }
 {
-    let a = state.slots[0];
-    let b = state.slots[1];
-    let c = state.slots[2];
-    let d = state.slots[3];
-    let e = state.slots[4];
-    gapless(a.rank, b.rank, c.rank, d.rank, e.rank)
+    gapless(
+        state.slots[0].rank,
+        state.slots[1].rank,
+        state.slots[2].rank,
+        state.slots[3].rank,
+        state.slots[4].rank,
+    )
 }
 
 // Whether the library can have made the record: it has 1 to 5 slots, and they are as they can be.

@@ -1,4 +1,6 @@
 -- What the proofs of `joined` search: one law for each return, over plain variables.
+use Rattle.std.specs.declared.option.Option as option
+use Rattle.std.specs.declared.option.Option.TheVariants.{Some, None}
 use Prim.Native.Nat.{ℕ, zero, suc, ◌+◌, ◌-◌, ◌*◌, ◌≤◌, ◌<◌}
 use mathlib.Core.Path.{◌≡◌, refl, sym}
 use mathlib.Core.Bool.{Bool, true, false, not, ◌&&◌, ◌||◌, and-false}
@@ -16,8 +18,6 @@ use Rattle.types.specs.declared.Kind.{Kind}
 use Rattle.packet.specs.Packets.{formed_by}
 use Rattle.arrival.specs.Page.{page_content}
 use Rattle.joined.specs.declared.Front.{Front}
-use Rattle.joined.specs.declared.Size.{Size}
-use Rattle.joined.specs.declared.Size.TheVariants as size
 use Rattle.joined.specs.Fronts.{pages_allow, front_of, octet_after, most_counted, extended, size_in, holds_packet, size_by, told_size, length_in, output_with, packet_for}
 use Rattle.joined.specs.Laws.{front_more, packet_for_lem, none_told, none_kept, packet_inside, packet_fits, packet_told, packet_written}
 
@@ -100,14 +100,14 @@ module _ (k : Kind) (paged : Bool) (o d : List ℕ) where
   pub none_fits_kept : length d < length o → d ≡ output_with (packet_for k paged o (length d)) d
   none_fits_kept l = rw (lt-ltb (length d) (length o) l)
 
-  module _ (f : Front) (z : Size) (fits : length o ≤ length d) (front : f ≡ front_of o) (told : told_size z ≡ size_by k paged 1 f) where
-    pub single_none : z ≡ size.None → none ≡ length_in (packet_for k paged o (length d))
+  module _ (f : Front) (z : option.Option ℕ) (fits : length o ≤ length d) (front : f ≡ front_of o) (told : told_size z ≡ size_by k paged 1 f) where
+    pub single_none : z ≡ None → none ≡ length_in (packet_for k paged o (length d))
     single_none e = rw (packet_for_lem k paged o (length d) fits) (none_told k paged 1 o f z front told e)
 
-    pub single_kept : z ≡ size.None → d ≡ output_with (packet_for k paged o (length d)) d
+    pub single_kept : z ≡ None → d ≡ output_with (packet_for k paged o (length d)) d
     single_kept e = rw (packet_for_lem k paged o (length d) fits) (none_kept k paged 1 o f z front told d e)
 
-    module _ (n : ℕ) (e : z ≡ size.Octets n) where
+    module _ (n : ℕ) (e : z ≡ Some n) where
       pub single_told : some n ≡ length_in (packet_for k paged o (length d))
       single_told = rw (packet_for_lem k paged o (length d) fits) (packet_told k paged 1 o f z front told n e)
 

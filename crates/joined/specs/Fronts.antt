@@ -1,5 +1,7 @@
 -- The packet in joined octets (01, "Numbers", "Series"), and of such octets their count and the first three, which is all that tells whether
 -- a packet is in them.
+use Rattle.std.specs.declared.option.Option as option
+use Rattle.std.specs.declared.option.Option.TheVariants.{Some, None}
 use Rattle.std.specs.Prelude.{ℕ, ◌+◌, ◌-◌, ◌*◌, min, Bool, true, false, not, cond, ◌&&◌, ◌||◌, List, ◌++◌, length, get_or, take, drop, ltb, leb}
 use Rattle.std.proofs.Math.Option.{Option, none, some}
 use Rattle.octets.specs.Octets.{number_of}
@@ -7,8 +9,6 @@ use Rattle.types.specs.declared.Kind.{Kind}
 use Rattle.packet.specs.Packets.{cpl, formed_by, well_formed}
 use Rattle.arrival.specs.Page.{page_content}
 use Rattle.joined.specs.declared.Front.{Front}
-use Rattle.joined.specs.declared.Size.{Size}
-use Rattle.joined.specs.declared.Size.TheVariants as size
 
 -- ---- the packet in joined octets
 -- "A packet in t pages has 82(t − 1) + 1 to 82t octets; what follows it in the last page is filler and is not handed out."
@@ -63,9 +63,9 @@ holds_packet k paged t f =
 unfoldable pub size_by : Kind → Bool → ℕ → Front → Option ℕ
 size_by k paged t f = cond (holds_packet k paged t f) (some (size_in paged f)) none
 
-abbrev pub told_size : Size → Option ℕ
-told_size (size.Octets n) = some n
-told_size size.None = none
+abbrev pub told_size : option.Option ℕ → Option ℕ
+told_size (Some n) = some n
+told_size None = none
 
 -- ---- handing out
 -- the packet's length, and the output with the packet at its start

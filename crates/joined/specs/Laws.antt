@@ -1,4 +1,6 @@
 -- Laws of the front of joined octets: it grows part by part, and it tells what packet is in them.
+use Rattle.std.specs.declared.option.Option as option
+use Rattle.std.specs.declared.option.Option.TheVariants.{Some, None}
 use Prim.Native.Nat.{ℕ, ◌+◌, ◌-◌, ◌≤◌, min}
 use Rattle.std.proofs.Math.Path.{◌≡◌}
 use Rattle.std.specs.Prelude.{refl, Bool, not, ◌&&◌, ◌||◌, List, ◌++◌, take, drop, get_or, eqb, ltb, leb}
@@ -12,8 +14,6 @@ use Rattle.octets.specs.Octets.{number_of}
 use Rattle.types.specs.declared.Kind.{Kind}
 use Rattle.packet.specs.Packets.{cpl, formed_by, well_formed}
 use Rattle.joined.specs.declared.Front.{Front}
-use Rattle.joined.specs.declared.Size.{Size}
-use Rattle.joined.specs.declared.Size.TheVariants as size
 use Rattle.joined.specs.Fronts.{pages_allow, packet_octets, packet_in, front_of, octet_after, front_after, most_counted, extended, size_in, holds_packet, size_by, told_size, length_in, output_with, packet_for}
 
 -- ---- more octets
@@ -131,20 +131,20 @@ module _ (k : Kind) (paged : Bool) (t : ℕ) (o : List ℕ) where
 
 -- ---- handing out
 -- what the front tells, where it is told of o
-module _ (k : Kind) (paged : Bool) (t : ℕ) (o : List ℕ) (f : Front) (z : Size) (front : f ≡ front_of o)
+module _ (k : Kind) (paged : Bool) (t : ℕ) (o : List ℕ) (f : Front) (z : option.Option ℕ) (front : f ≡ front_of o)
     (told : told_size z ≡ size_by k paged t f) where
   size_told : told_size z ≡ size_by k paged t (front_of o)
   size_told = rw (← front) told
 
   -- there is none
-  pub none_told : z ≡ size.None → none ≡ length_in (packet_in k paged t o)
+  pub none_told : z ≡ None → none ≡ length_in (packet_in k paged t o)
   none_told e = rw (packet_by k paged t o, ← size_told, e)
 
-  pub none_kept : (d : List ℕ) → z ≡ size.None → d ≡ output_with (packet_in k paged t o) d
+  pub none_kept : (d : List ℕ) → z ≡ None → d ≡ output_with (packet_in k paged t o) d
   none_kept d e = rw (packet_by k paged t o, ← size_told, e)
 
   -- there is one of n octets
-  module _ (n : ℕ) (e : z ≡ size.Octets n) where
+  module _ (n : ℕ) (e : z ≡ Some n) where
     pub packet_inside : n ≤ length o
     packet_inside = size_most k paged t o n (rw e at (sym size_told))
 

@@ -18,13 +18,6 @@ pub struct Front {
     pub header: u8,
 }
 
-// How many of the octets are the packet, if there is one.
-#[derive(Clone, Copy)]
-pub enum Size {
-    Octets(usize),
-    None,
-}
-
 // ---- the front
 // The front of no octets.
 pub fn no_front() -> Front
@@ -45,11 +38,7 @@ fn octet_after(i: usize, n: usize, held: u8, p: &[u8]) -> u8
     if i < n {
         return held;
     }
-    let j = i - n;
-    if j < p.len() {
-        return p[j];
-    }
-    0
+    p.get(i - n).copied().unwrap_or(0)
 }
 
 // The front, with p behind what it is the front of. Once three octets have been seen, only the count grows; once it counts more than a packet
@@ -63,15 +52,10 @@ pub fn extended(f: Front, p: &[u8]) -> Front
     }
     let count = n + p.len();
     if 3 <= n {
-        return Front {
-            count: count,
-            high: f.high,
-            low: f.low,
-            header: f.header,
-        };
+        return Front { count, ..f };
     }
     Front {
-        count: count,
+        count,
         high: octet_after(0, n, f.high, p),
         low: octet_after(1, n, f.low, p),
         header: octet_after(2, n, f.header, p),
@@ -95,10 +79,7 @@ fn size_in(paged: bool, f: Front) -> usize
         return n;
     }
     let stated = octets::number_of(f.high, f.low) as usize + 2;
-    if stated <= n {
-        return stated;
-    }
-    n
+    stated.min(n)
 }
 
 // Whether a packet of that length takes exactly that many pages.
@@ -113,15 +94,15 @@ fn pages_allow(total: u8, size: usize) -> bool
 }
 
 // Whether octets with that front, in `total` messages or pages, hold a packet, and how long it is.
-pub fn packet_size(kind: Kind, paged: bool, total: u8, f: Front) -> Size
+pub fn packet_size(kind: Kind, paged: bool, total: u8, f: Front) -> Option<usize>
     ensures { told_size result ≡ size_by kind paged total f }
 {
     let size = size_in(paged, f);
     let formed = packet::read::formed(kind, size, f.high, f.low, f.header);
     if formed & (!paged | pages_allow(total, size)) {
-        return Size::Octets(size);
+        return Some(size);
     }
-    Size::None
+    None
 }
 
 // ---- handing out
@@ -135,19 +116,14 @@ fn copy_front(p: &[u8], limit: usize, out: &mut [u8])
 
 // Hands out the packet of a single message or page: it stands at the start of out, whose rest stays. Where there is none, or out has not as
 // many octets as p, all of out stays.
-pub fn hand_out(kind: Kind, paged: bool, p: &[u8], out: &mut [u8]) -> Size
+pub fn hand_out(kind: Kind, paged: bool, p: &[u8], out: &mut [u8]) -> Option<usize>
     ensures result_value { told_size result ≡ length_in (packet_for kind paged p.now (length out.old)) }
     ensures out_after { out.new ≡ output_with (packet_for kind paged p.now (length out.old)) out.old }
 {
     if out.len() < p.len() {
-        return Size::None;
+        return None;
     }
-    let size = packet_size(kind, paged, 1, front_of(p));
-    match size {
-        Size::Octets(n) => {
-            copy_front(p, n, out);
-            Size::Octets(n)
-        }
-        Size::None => Size::None,
-    }
+    let size = packet_size(kind, paged, 1, front_of(p))?;
+    copy_front(p, size, out);
+    Some(size)
 }

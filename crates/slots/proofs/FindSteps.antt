@@ -1,51 +1,20 @@
 -- What the proofs over the slots cite: one law for each return, call and turn of a loop, over plain variables.
-use Prim.Native.Nat.{ℕ, zero, suc, ◌≤◌, ◌<◌}
+use Prim.Native.Nat.{ℕ, zero, suc, ◌≤◌}
 use mathlib.Core.Path.{◌≡◌, refl}
-use mathlib.Core.Bool.{Bool, true, false, not, cond, ◌&&◌}
+use mathlib.Core.Bool.{Bool, true, false, cond, ◌&&◌}
 use mathlib.Core.List.{List, [], ◌∷◌}
 use mathlib.Core.Option.{Option, none, some}
 use native.Mathlib.Omega.{arith}
-use lib.ListN.{length, replicate}
-use lib.Dec.{eqb, ltb}
+use lib.ListN.{length}
+use lib.Dec.{ltb}
 use borrow.Author.Rules.{rules}
-use borrow.Author.Tests.{eq-eqb, ne_eqb, ltb-false, lt-ltb, le-ltb}
+use borrow.Author.Tests.{ltb-false}
 use Rattle.octets.specs.Tests.{by_test}
-use Rattle.arrival.specs.Message.{most_parts}
-use Rattle.types.specs.declared.Key.{Key}
-use Rattle.types.specs.declared.Kind.{Kind}
 use Rattle.types.specs.declared.Slot.{Slot}
 use Rattle.types.specs.declared.Record.{Record}
-use Rattle.types.specs.Refusals.{refused, gives}
-use Rattle.slots.specs.Slots.{most_slots, slot_at, find, find_in, later, with_part, same_key, bears, free_slot, slots_in, fresh_record, beside, making}
-use Rattle.slots.specs.SearchLaws.{search_laws}
-use Rattle.slots.specs.Found.{length_of_map, with_part_in}
-
--- ---- flags and literals
-pub bears_told : (key : Key) (x : Slot) (b : Bool) → b ≡ same_key x.key key → not (eqb x.rank 0) && b ≡ bears key x
-bears_told key x b e = rw e
-
-pub fresh_told : (n : ℕ) (k : Kind) (x : Slot) → x ≡ free_slot → record { kind = k; count = n; slots = replicate most_slots x } ≡ fresh_record n k
-fresh_told n k x e = rw e
-
--- ---- making a record, and how many slots it has
-module _ (n : ℕ) (k : Kind) (r : Record) where
-  pub making_fresh : (not (eqb n 0) && not (ltb most_slots n)) ≡ true → r ≡ fresh_record n k → beside (gives tt) r ≡ making n k
-  making_fresh t e = rw (t, e)
-
-  pub making_refused : (not (eqb n 0) && not (ltb most_slots n)) ≡ false → r ≡ fresh_record 0 k → beside (refused 25) r ≡ making n k
-  making_refused t e = rw (t, e)
-
-module _ (r : Record) where
-  pub slots_most : most_slots < r.count → most_slots ≡ slots_in r
-  slots_most l = rw (lt-ltb most_slots r.count l)
-
-  pub slots_own : r.count ≤ most_slots → r.count ≡ slots_in r
-  slots_own l = rw (le-ltb most_slots r.count l)
+use Rattle.slots.specs.Slots.{most_slots, slot_at, find, find_in, later, slots_in}
 
 -- ---- a search that reads the slots one by one
-pub own_told : (n m i : ℕ) (a b : Bool) → n ≡ m → a ≡ b → (ltb i n && a) ≡ (ltb i m && b)
-own_told n m i a b e f = rw (e, f)
-
 abbrev first_of : Bool → Bool → Bool → Bool → Bool → Option ℕ
 first_of a b c d e = cond a (some 0) (cond b (some 1) (cond c (some 2) (cond d (some 3) (cond e (some 4) none))))
 
@@ -113,35 +82,12 @@ module _ (p : Slot → Bool) (r : Record) (len : length r.slots ≡ most_slots) 
             pub at_none : e ≡ false → none ≡ find_in (slots_in r) p r.slots
             at_none f = rw (found, ← ea, ← eb, ← ec, ← ed, ← ee, na, nb, nc, nd, f)
 
--- ---- a slot with a part
-module _ (x : Slot) (number n : ℕ) where
-  pub part_zero : number ≡ 0 → x ≡ with_part_in x number n
-  part_zero e = rw (eq-eqb number 0 e)
-
-  pub part_past : most_parts < number → x ≡ with_part_in x number n
-  part_past l = rw (ne_eqb number 0 (λ e. omega arith), lt-ltb most_parts number l)
-
-  pub part_there : (number ≡ 0 → ⊥) → number ≤ most_parts → with_part x number n ≡ with_part_in x number n
-  part_there z l = rw (ne_eqb number 0 z, le-ltb most_parts number l)
-
 pub ruleset find_steps = (
   rules,
-  search_laws,
-  length_of_map,
-  bears_told,
-  fresh_told,
-  making_fresh,
-  making_refused,
-  slots_most,
-  slots_own,
-  own_told,
   at_first,
   at_second,
   at_third,
   at_fourth,
   at_fifth,
   at_none,
-  part_zero,
-  part_past,
-  part_there,
 )

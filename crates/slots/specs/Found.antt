@@ -1,4 +1,6 @@
 -- What a search of the slots answers, in the words of the rules, where a series is or goes, and what owning the slots tells.
+use Rattle.std.specs.declared.option.Option as option
+use Rattle.std.specs.declared.option.Option.TheVariants.{Some, None}
 use Rattle.std.specs.Prelude.{ℕ, ◌≤◌, ◌<◌, ◌≡◌, refl, List, map, true, false, cond, ◌||◌, length, eqb, ltb}
 use Rattle.std.proofs.Common.{sym, ◌∙◌, arith, le-ltb, ne_eqb}
 use Rattle.std.proofs.Math.Option.{Option, none, some}
@@ -7,20 +9,18 @@ use Rattle.octets.specs.Tests.{clash}
 use Rattle.arrival.specs.Message.{most_parts}
 use Rattle.types.specs.declared.Key.{Key}
 use Rattle.types.specs.declared.Slot.{Slot}
-use Rattle.slots.specs.declared.find.Found.{Found}
 use Rattle.slots.specs.declared.find.Seat.{Seat}
-use Rattle.slots.specs.declared.find.Found.TheVariants.{At, Nothing}
 use Rattle.slots.specs.Slots.{with_part, bears, is_free, find_in, is_least_recent, slot_or, least_recent}
 use Rattle.slots.specs.FrontLaws.{FoundIn, hit_in, miss_in, find_in?}
 
-abbrev pub told_found : Found → Option ℕ
-told_found (At i) = some i
-told_found Nothing = none
+abbrev pub told_found : option.Option ℕ → Option ℕ
+told_found (Some i) = some i
+told_found None = none
 
 -- an index found is one of n
-abbrev pub Inside : ℕ → Found → Type 0
-Inside n (At i) = i < n
-Inside n Nothing = Unit
+abbrev pub Inside : ℕ → option.Option ℕ → Type 0
+Inside n (Some i) = i < n
+Inside n None = Unit
 
 -- "A new key takes the lowest free slot; with none free it displaces the least recent series."
 abbrev pub new_seat_in : ℕ → List Slot → Option ℕ → Seat
@@ -45,7 +45,7 @@ with_part_in x number n = cond (eqb number 0 || ltb most_parts number) x (with_p
 pub with_part_in_lem : (x : Slot) (number n : ℕ) → 0 < number → number ≤ most_parts → with_part_in x number n ≡ with_part x number n
 with_part_in_lem x number n l m = rw (ne_eqb number 0 (λ e. omega arith), le-ltb most_parts number m)
 
-pub found_inside : (n : ℕ) (f : Found) (i : ℕ) → Inside n f → f ≡ At i → i < n
+pub found_inside : (n : ℕ) (f : option.Option ℕ) (i : ℕ) → Inside n f → f ≡ Some i → i < n
 found_inside n f i h e = rw e at h
 
 -- what owning an array of structs tells of its length

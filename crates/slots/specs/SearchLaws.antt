@@ -1,5 +1,7 @@
 -- A search that goes over the first slots by index, as a loop does, and what it says of where a series is or goes. Whoever reads the slots
 -- in another form, and knows of each what it is, searches by the same laws.
+use Rattle.std.specs.declared.option.Option as option
+use Rattle.std.specs.declared.option.Option.TheVariants.{Some, None}
 use Prim.Native.Nat.{ℕ, zero, suc, ◌+◌, ◌≤◌, ◌<◌}
 use Rattle.std.specs.Prelude.{◌≡◌, Bool, true, false, length, take}
 use Rattle.std.proofs.Math.Path.{refl}
@@ -11,9 +13,7 @@ use Rattle.types.specs.declared.Slot.{Slot}
 use Rattle.slots.specs.Slots.{most_slots, slot_at, bears, is_free, find, find_in, is_least_recent, slot_or, least_recent}
 use Rattle.slots.specs.FrontLaws.{slot_in_lem}
 use Rattle.slots.specs.Found.{told_found, new_seat, seat_of, found_inside}
-use Rattle.slots.specs.declared.find.Found.{Found}
 use Rattle.slots.specs.declared.find.Seat.{Seat}
-use Rattle.slots.specs.declared.find.Found.TheVariants.{At, Nothing}
 
 module _ (p : Slot → Bool) where
   -- the first slot that passes is the one found
@@ -61,29 +61,29 @@ module _ (p : Slot → Bool) (m : ℕ) (xs : List Slot) where
     search_ends n is l = rw (← is) (sym (find_none p (take m xs) (λ k h. none_in k (omega (arith, size)) (omega (arith, size)))))
 
 -- ---- what a search of a rank says of the least recent
-module _ (m n : ℕ) (xs : List Slot) (f : Found) (told : told_found f ≡ find_in n (is_least_recent m) xs) (is : m ≡ n) where
+module _ (m n : ℕ) (xs : List Slot) (f : option.Option ℕ) (told : told_found f ≡ find_in n (is_least_recent m) xs) (is : m ≡ n) where
   least : slot_or 0 (told_found f) ≡ least_recent n xs
   least = ap (slot_or 0) told ∙ ap (λ q. slot_or 0 (find_in n (is_least_recent q) xs)) is
 
-  pub least_found : (i : ℕ) → f ≡ At i → i ≡ least_recent n xs
+  pub least_found : (i : ℕ) → f ≡ Some i → i ≡ least_recent n xs
   least_found i e = rw (← least, e)
 
-  pub least_none : f ≡ Nothing → 0 ≡ least_recent n xs
+  pub least_none : f ≡ None → 0 ≡ least_recent n xs
   least_none e = rw (← least, e)
 
 -- where a new series goes
-module _ (n : ℕ) (xs : List Slot) (f : Found) (told : told_found f ≡ find_in n is_free xs) where
-  pub seat_free : (i : ℕ) → f ≡ At i → record { slot = i; held = false; displaced = false } ≡ new_seat n xs
+module _ (n : ℕ) (xs : List Slot) (f : option.Option ℕ) (told : told_found f ≡ find_in n is_free xs) where
+  pub seat_free : (i : ℕ) → f ≡ Some i → record { slot = i; held = false; displaced = false } ≡ new_seat n xs
   seat_free i e = rw (← told, e)
 
-  pub seat_least : (m : ℕ) → f ≡ Nothing → m ≡ least_recent n xs → record { slot = m; held = false; displaced = true } ≡ new_seat n xs
+  pub seat_least : (m : ℕ) → f ≡ None → m ≡ least_recent n xs → record { slot = m; held = false; displaced = true } ≡ new_seat n xs
   seat_least m e l = rw (← told, e, l)
 
-module _ (n : ℕ) (xs : List Slot) (key : Key) (f : Found) (told : told_found f ≡ find_in n (bears key) xs) where
-  pub seat_held : (i : ℕ) → f ≡ At i → record { slot = i; held = true; displaced = false } ≡ seat_of n xs key
+module _ (n : ℕ) (xs : List Slot) (key : Key) (f : option.Option ℕ) (told : told_found f ≡ find_in n (bears key) xs) where
+  pub seat_held : (i : ℕ) → f ≡ Some i → record { slot = i; held = true; displaced = false } ≡ seat_of n xs key
   seat_held i e = rw (← told, e)
 
-  pub seat_new : (o : Seat) → f ≡ Nothing → o ≡ new_seat n xs → o ≡ seat_of n xs key
+  pub seat_new : (o : Seat) → f ≡ None → o ≡ new_seat n xs → o ≡ seat_of n xs key
   seat_new o e h = rw (← told, e) h
 
 pub ruleset search_laws = (

@@ -1,4 +1,7 @@
 -- Slots, keys and recency (01, "Series"; 02 [5], [6]). The number of slots is a parameter of every rule.
+use Rattle.std.specs.declared.result.Result.{Result}
+use Rattle.std.specs.declared.result.Result.TheVariants.{Ok, Err}
+use Rattle.types.specs.declared.Refusal.{Refusal}
 use Rattle.std.specs.Prelude.{ℕ, suc, pred, ◌-◌, Bool, true, false, not, cond, ◌&&◌, ◌||◌, List, [], ◌∷◌, map, get_or, set, replicate, take, eqb, ltb}
 use Rattle.std.proofs.Math.Option.{Option, none, some}
 use Rattle.types.specs.declared.Kind.{Kind}
@@ -6,7 +9,6 @@ use Rattle.types.specs.declared.Key.{Key}
 use Rattle.arrival.specs.Message.{most_parts}
 use Rattle.types.specs.declared.Slot.{Slot}
 use Rattle.types.specs.declared.Record.{Record}
-use Rattle.types.specs.declared.Making as declared
 use Rattle.types.specs.Refusals.{Outcome, refused, gives, refusal_number}
 
 -- "The number of slots becomes a choice of 1 to 5 when a record is made, and the default becomes five." (02 [5])
@@ -141,9 +143,9 @@ Beside = Outcome Unit × Record
 abbrev pub beside : Outcome Unit → Record → Beside
 beside answer r = (answer, r)
 
-abbrev pub told_making : declared.Making → Outcome Unit
-told_making declared.TheVariants.Fresh = gives tt
-told_making (declared.TheVariants.Refused r) = refused (refusal_number r)
+abbrev pub told_making : Result Unit Refusal → Outcome Unit
+told_making (Ok tt) = gives tt
+told_making (Err r) = refused (refusal_number r)
 
 -- 25: "for a record asked with 0 or more than five slots". Beside it stands a record without slots, all zero, which no call accepts.
 abbrev pub making : ℕ → Kind → Beside

@@ -5,15 +5,8 @@ ghost use Rattle.slots.specs.Slots.{most_slots, default_slots, slot_at, opened, 
 ghost use Rattle.slots.specs.Found.{told_found, Inside, new_seat, seat_of, with_part_in};
 
 use types::{
-    Key, Kind, Made, Making, MessageIdentifier, PARTS, Record, Refusal, SLOTS, SerialNumber, Slot,
+    Key, Kind, Made, MessageIdentifier, PARTS, Record, Refusal, SLOTS, SerialNumber, Slot,
 };
-
-// Which slot a search found.
-#[derive(Clone, Copy)]
-pub enum Found {
-    At(usize),
-    Nothing,
-}
 
 // The slot of a series: whether it is held there, and if not, whether it displaces another.
 #[derive(Clone, Copy)]
@@ -30,8 +23,8 @@ pub fn opened(key: Key, total: u8) -> Slot
     Slot {
         rank: 0,
         beats: 0,
-        key: key,
-        total: total,
+        key,
+        total,
         lengths: [0; PARTS],
         held: [false; PARTS],
     }
@@ -55,12 +48,10 @@ pub fn free_slot() -> Slot
 fn numbered(kind: Kind, n: u8) -> Record
     ensures { result ≡ fresh_record n kind }
 {
-    let x = free_slot();
-    let slots = [x; SLOTS];
     Record {
-        kind: kind,
+        kind,
         count: n,
-        slots: slots,
+        slots: [free_slot(); SLOTS],
     }
 }
 
@@ -77,12 +68,12 @@ pub fn fresh_with(kind: Kind, n: u8) -> Made
 {
     if (n != 0) & !((SLOTS as u8) < n) {
         return Made {
-            answer: Making::Fresh,
+            answer: Ok(()),
             record: numbered(kind, n),
         };
     }
     Made {
-        answer: Making::Refused(Refusal::SlotNumber),
+        answer: Err(Refusal::SlotNumber),
         record: numbered(kind, 0),
     }
 }
@@ -91,51 +82,34 @@ pub fn fresh_with(kind: Kind, n: u8) -> Made
 pub fn slots_in(state: Record) -> usize
     ensures { (result ≡ slots_in state) × (result ≤ most_slots) }
 {
-    let n = state.count as usize;
-    if SLOTS < n {
-        return SLOTS;
-    }
-    n
+    (state.count as usize).min(SLOTS)
 }
 
 // The slot with part `number`, of n octets; if no part has that number, the slot as it is.
-pub fn with_part(x: Slot, number: usize, n: u8) -> Slot
+pub fn with_part(mut x: Slot, number: usize, n: u8) -> Slot
     ensures { result ≡ with_part_in x number n }
 {
-    if number == 0 {
-        return x;
+    if number != 0 && number <= PARTS {
+        let i = number - 1;
+        x.lengths[i] = n;
+        x.held[i] = true;
     }
-    if PARTS < number {
-        return x;
-    }
-    let mut y = x;
-    let i = number - 1;
-    y.lengths[i] = n;
-    y.held[i] = true;
-    y
+    x
 }
 
-// Whether two keys are one: every field counts, so 8-bit 2A and 16-bit 002A are two series. Most series of one sender differ by their reference, so
-// that is looked at first, and the rest only if it is the same.
+// Whether two keys are one: every field counts, so 8-bit 2A and 16-bit 002A are two series. Most series of one sender differ by their reference;
+// it is looked at first, since that is faster, and the rest only if it is the same.
 pub fn same_key(a: Key, b: Key) -> bool
     ensures { result ≡ same_key a b }
 {
-    if a.reference != b.reference {
-        return false;
-    }
-    (a.sender == b.sender)
-        & (a.width == b.width)
-        & (a.reference == b.reference)
-        & (a.serial.0 == b.serial.0)
-        & (a.identifier.0 == b.identifier.0)
+    a.reference == b.reference && a == b
 }
 
 // Whether the slot is used, by the series with that key.
 fn bears(key: Key, x: Slot) -> bool
     ensures { result ≡ bears key x }
 {
-    let k = x.key;
-    (x.rank != 0) & same_key(k, key)
+    (x.rank != 0) & same_key(x.key, key)
 }
 
 // Whether slot i is one of the record's own, and used by the series with that key.
@@ -143,33 +117,31 @@ fn bears_in(state: Record, key: Key, i: usize) -> bool
     requires { i < most_slots }
     ensures { (result ≡ (ltb i (slots_in state) && bears key (slot_at state.slots i))) × (length state.slots ≡ most_slots) }
 {
-    let n = slots_in(state);
-    let x = state.slots[i];
-    (i < n) & bears(key, x)
+    (i < slots_in(state)) & bears(key, state.slots[i])
 }
 
 // The slot of the series with that key. This search and that of a rank ask of each slot by a number that is known when they are compiled: a loop
-// over the slots would copy the record first.
-fn find_key(state: Record, key: Key) -> Found
+// over the slots would copy the record first. They are two functions, since the contract of one that takes the test as a closure is longer than both.
+fn find_key(state: Record, key: Key) -> Option<usize>
     ensures result_value { told_found result ≡ find_in (slots_in state) (bears key) state.slots }
     ensures inside { Inside most_slots result }
 {
     if bears_in(state, key, 0) {
-        return Found::At(0);
+        return Some(0);
     }
     if bears_in(state, key, 1) {
-        return Found::At(1);
+        return Some(1);
     }
     if bears_in(state, key, 2) {
-        return Found::At(2);
+        return Some(2);
     }
     if bears_in(state, key, 3) {
-        return Found::At(3);
+        return Some(3);
     }
     if bears_in(state, key, 4) {
-        return Found::At(4);
+        return Some(4);
     }
-    Found::Nothing
+    None
 }
 
 // Whether slot i is one of the record's own, and has rank r.
@@ -177,36 +149,34 @@ fn ranks_in(state: Record, r: u8, i: usize) -> bool
     requires { i < most_slots }
     ensures { (result ≡ (ltb i (slots_in state) && is_least_recent r (slot_at state.slots i))) × (length state.slots ≡ most_slots) }
 {
-    let n = slots_in(state);
-    let x = state.slots[i];
-    (i < n) & (x.rank == r)
+    (i < slots_in(state)) & (state.slots[i].rank == r)
 }
 
 // The first slot of rank r.
-fn find_rank(state: Record, r: u8) -> Found
+fn find_rank(state: Record, r: u8) -> Option<usize>
     ensures result_value { told_found result ≡ find_in (slots_in state) (is_least_recent r) state.slots }
     ensures inside { Inside most_slots result }
 {
     if ranks_in(state, r, 0) {
-        return Found::At(0);
+        return Some(0);
     }
     if ranks_in(state, r, 1) {
-        return Found::At(1);
+        return Some(1);
     }
     if ranks_in(state, r, 2) {
-        return Found::At(2);
+        return Some(2);
     }
     if ranks_in(state, r, 3) {
-        return Found::At(3);
+        return Some(3);
     }
     if ranks_in(state, r, 4) {
-        return Found::At(4);
+        return Some(4);
     }
-    Found::Nothing
+    None
 }
 
 // The lowest free slot.
-fn find_free(state: Record) -> Found
+fn find_free(state: Record) -> Option<usize>
     ensures result_value { told_found result ≡ find_in (slots_in state) is_free state.slots }
     ensures inside { Inside most_slots result }
 {
@@ -217,10 +187,7 @@ fn find_free(state: Record) -> Found
 fn least_recent(state: Record) -> usize
     ensures { (result ≡ least_recent (slots_in state) state.slots) × (result < most_slots) }
 {
-    match find_rank(state, slots_in(state) as u8) {
-        Found::At(i) => i,
-        Found::Nothing => 0,
-    }
+    find_rank(state, slots_in(state) as u8).unwrap_or(0)
 }
 
 // Where a new series goes: the lowest free slot, or with none free that of the least recent series.
@@ -228,12 +195,12 @@ fn new_seat(state: Record) -> Seat
     ensures { (result ≡ new_seat (slots_in state) state.slots) × (result.slot < most_slots) }
 {
     match find_free(state) {
-        Found::At(i) => Seat {
-            slot: i,
+        Some(slot) => Seat {
+            slot,
             held: false,
             displaced: false,
         },
-        Found::Nothing => Seat {
+        None => Seat {
             slot: least_recent(state),
             held: false,
             displaced: true,
@@ -246,11 +213,11 @@ pub fn seat_of(state: Record, key: Key) -> Seat
     ensures { (result ≡ seat_of (slots_in state) state.slots key) × (result.slot < most_slots) }
 {
     match find_key(state, key) {
-        Found::At(i) => Seat {
-            slot: i,
+        Some(slot) => Seat {
+            slot,
             held: true,
             displaced: false,
         },
-        Found::Nothing => new_seat(state),
+        None => new_seat(state),
     }
 }

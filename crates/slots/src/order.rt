@@ -24,10 +24,11 @@ pub fn rank_after(front: bool, r: u8, q: u8) -> u8
 pub fn at_front(x: Slot) -> Slot
     ensures { result ≡ at_front x }
 {
-    let mut y = x;
-    y.rank = 1;
-    y.beats = 0;
-    y
+    Slot {
+        rank: 1,
+        beats: 0,
+        ..x
+    }
 }
 
 // The record with x in slot i, and the other slots at the ranks that they have once slot i has come to the front, or was freed. If there
@@ -37,14 +38,13 @@ pub fn replaced(mut state: Record, i: usize, front: bool, x: Slot) -> Record
 {
     let n = slots_in(state);
     if i < n {
-        let old = state.slots[i];
-        let r = old.rank;
-        let mut j = 0;
-        while j < n {
-            let mut y = state.slots[j];
-            y.rank = rank_after(front, r, y.rank);
-            state.slots[j] = y;
-            j = j + 1;
+        let r = state.slots[i].rank;
+        for j in 0..n {
+            let y = state.slots[j];
+            state.slots[j] = Slot {
+                rank: rank_after(front, r, y.rank),
+                ..y
+            };
         }
         state.slots[i] = x;
     }

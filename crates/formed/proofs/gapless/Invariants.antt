@@ -4,12 +4,9 @@ use lib.Dec.{eqb}
 use Rattle.formed.specs.Pieces.{five_of}
 use Rattle.slots.specs.Slots.{most_slots}
 use mathlib.Core.Bool.{not}
-use Prim.Native.Nat.{◌+◌, ◌-◌, ◌≤◌}
+use Prim.Native.Nat.{◌+◌, ◌≤◌}
 use mathlib.Core.Path.{◌≡◌}
 use Rattle.formed.proofs.gapless.Given as goal
 
 abbrev pub invariant-loop-r : goal.invariant-loop-r
 invariant-loop-r l = (l.r ≤ l.m) × (l.m ≤ most_slots) × (l.m ≡ count_below most_slots (λ i. not (eqb (five_of l.a l.b l.c l.d l.e i) 0))) × (l.ok ≡ all_below l.r (λ r. any_below most_slots (λ i. eqb (five_of l.a l.b l.c l.d l.e i) (r + 1))))
-
-abbrev pub decreases-loop-r : goal.decreases-loop-r
-decreases-loop-r l = l.m - l.r

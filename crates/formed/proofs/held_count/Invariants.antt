@@ -2,12 +2,9 @@
 use Rattle.slots.specs.Below.{count_below}
 use Rattle.formed.specs.Formed.{mark_at}
 use Rattle.arrival.specs.Message.{most_parts}
-use Prim.Native.Nat.{◌-◌, ◌≤◌}
+use Prim.Native.Nat.{◌≤◌}
 use mathlib.Core.Path.{◌≡◌}
 use Rattle.formed.proofs.held_count.Given as goal
 
 abbrev pub invariant-loop-i : goal.invariant-loop-i
 invariant-loop-i l = (l.i ≤ most_parts) × (l.m ≤ l.i) × (l.m ≡ count_below l.i (mark_at l.x))
-
-abbrev pub decreases-loop-i : goal.decreases-loop-i
-decreases-loop-i l = most_parts - l.i

@@ -2,8 +2,8 @@
 use Rattle.formed.proofs.Steps.{formed_steps}
 use Rattle.formed.proofs.slot_formed.Goals as goal
 
-pub returns-then-free : goal.returns-then-free
-returns-then-free c = search formed_steps
+pub returns-then-x-eq0 : goal.returns-then-x-eq0
+returns-then-x-eq0 c = search formed_steps
 
 pub returns : goal.returns
 returns c = search formed_steps

@@ -3,12 +3,9 @@
 use Rattle.slots.specs.Below.{all_below, fault}
 use Rattle.arrival.specs.Message.{most_parts}
 use Rattle.formed.specs.Formed.{zero_part}
-use Prim.Native.Nat.{◌-◌, ◌≤◌}
+use Prim.Native.Nat.{◌≤◌}
 use mathlib.Core.Path.{◌≡◌}
 use Rattle.formed.proofs.zero_parts.Given as goal
 
 abbrev pub invariant-loop-i : goal.invariant-loop-i
 invariant-loop-i l = (l.i ≤ most_parts) × (l.bad ≡ fault (all_below l.i (zero_part l.x)))
-
-abbrev pub decreases-loop-i : goal.decreases-loop-i
-decreases-loop-i l = most_parts - l.i

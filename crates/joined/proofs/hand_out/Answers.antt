@@ -3,17 +3,17 @@
 use Rattle.joined.proofs.Steps.{steps}
 use Rattle.joined.proofs.hand_out.Goals as goal
 
+pub returns-in_err-size-clause-result_value : goal.returns-in_err-size-clause-result_value
+returns-in_err-size-clause-result_value c = search (steps, c.in_err-size.was)
+
+pub returns-in_err-size-clause-out_after : goal.returns-in_err-size-clause-out_after
+returns-in_err-size-clause-out_after c = search (steps, c.in_err-size.was)
+
 pub copy_front-requires : goal.copy_front-requires
-copy_front-requires c = search steps
+copy_front-requires c = search (steps, c.in_ok-size.was)
 
-pub returns-in-Octets-clause-result_value : goal.returns-in-Octets-clause-result_value
-returns-in-Octets-clause-result_value c = search steps
+pub returns-clause-result_value : goal.returns-clause-result_value
+returns-clause-result_value c = search (steps, c.in_ok-size.was)
 
-pub returns-in-Octets-clause-out_after : goal.returns-in-Octets-clause-out_after
-returns-in-Octets-clause-out_after c = search steps
-
-pub returns-in-None-clause-result_value : goal.returns-in-None-clause-result_value
-returns-in-None-clause-result_value c = search steps
-
-pub returns-in-None-clause-out_after : goal.returns-in-None-clause-out_after
-returns-in-None-clause-out_after c = search steps
+pub returns-clause-out_after : goal.returns-clause-out_after
+returns-clause-out_after c = search (steps, c.in_ok-size.was)
