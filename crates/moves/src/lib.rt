@@ -19,11 +19,9 @@ fn rerank(state: &mut [u8; STATE_OCTETS], i: usize, front: bool)
 {
     let n = slots_in(state);
     let r = rank_at(state, i);
-    let mut j = 0;
-    while j < n {
+    for j in 0..n {
         let q = rank_at(state, j);
         set_rank(state, j, rank_after(front, r, q));
-        j = j + 1;
     }
 }
 

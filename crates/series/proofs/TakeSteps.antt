@@ -1,4 +1,6 @@
 -- What the proofs of taking search: one law for each return and call, over plain variables.
+use Rattle.std.specs.declared.result.Result.{Result}
+use Rattle.std.specs.declared.result.Result.TheVariants.{Ok, Err}
 use Prim.Native.Nat.{ℕ, ◌≤◌, ◌<◌}
 use mathlib.Core.Path.{◌≡◌, sym, ap, ◌∙◌}
 use mathlib.Core.Bool.{Bool, true, false, not, ◌||◌}
@@ -28,7 +30,7 @@ use Rattle.types.specs.declared.Record.{Record}
 use Rattle.slots.specs.declared.find.Seat.{Seat}
 use Rattle.series.specs.declared.take.Step as code
 use Rattle.series.specs.declared.take.Change.{Change}
-use Rattle.series.specs.declared.take.Step.TheVariants.{Refuses, Repeats, Keeps, Finishes}
+use Rattle.series.specs.declared.take.Step.TheVariants.{Repeats, Keeps, Finishes}
 use Rattle.slots.specs.BelowLaws.{fault_from, fault_more, fault_through}
 use Rattle.slots.specs.Found.{seat_of, seat_found, with_part_in, with_part_in_lem}
 use Rattle.slots.specs.Slots.{most_slots, slot_at, opened, free_slot, with_part, at_front, to_front, freed, with_slots, slots_in}
@@ -44,21 +46,21 @@ use Rattle.series.specs.TakeLaws as law
 use Rattle.series.specs.TakeLaws.{message_fitting, page_fitting}
 
 -- ---- acting
-pub part_kept : (i number : ℕ) (octets cells : List ℕ) (a : response.Answer) (n : ℕ) (x y : Slot) (c : Change) → Room i number octets cells
+pub part_kept : (i number : ℕ) (octets cells : List ℕ) (a : Result response.Answer Refusal) (n : ℕ) (x y : Slot) (c : Change) → Room i number octets cells
     → y ≡ with_part_in x number n → c ≡ fronted a i y → c ≡ fronted a i (with_part x number n)
 part_kept i number octets cells a n x y c room e h =
     h ∙ ap (fronted a i) (e ∙ with_part_in_lem x number n room.place.1 room.place.2)
 
-pub slot_emptied : (a : response.Answer) (i : ℕ) (x : Slot) → x ≡ free_slot
+pub slot_emptied : (a : Result response.Answer Refusal) (i : ℕ) (x : Slot) → x ≡ free_slot
     → record { answer = a; moves = true; front = false; slot = i; entry = x } ≡ emptied a i
 slot_emptied a i x e = rw e
 
-pub slot_fronted : (a : response.Answer) (i : ℕ) (x y : Slot) → y ≡ at_front x
+pub slot_fronted : (a : Result response.Answer Refusal) (i : ℕ) (x y : Slot) → y ≡ at_front x
     → record { answer = a; moves = true; front = true; slot = i; entry = y } ≡ fronted a i x
 slot_fronted a i x y e = rw e
 
 -- what becomes of a record
-module _ (r : Record) (k : Kind) (i : ℕ) (y : Slot) (holds : Holds r k i y) (c : Change) (a : response.Answer) where
+module _ (r : Record) (k : Kind) (i : ℕ) (y : Slot) (holds : Holds r k i y) (c : Change) (a : Result response.Answer Refusal) where
   comes_front : (x : Slot) → c ≡ fronted a i x → changed r c ≡ with_slots r (to_front r.slots i x)
   comes_front x e = rw e (front_in r i holds.inside holds.rest x holds.ranks)
 
@@ -67,28 +69,28 @@ module _ (r : Record) (k : Kind) (i : ℕ) (y : Slot) (holds : Holds r k i y) (c
 
 -- a part of the series x in slot i, where step z is due
 module _ (k : Kind) (cells output : List ℕ) (paged : Bool) (total number : ℕ) (octets : List ℕ) (i : ℕ) (x : Slot)
-    (z : code.Step) (told : told_step i x z ≡ step_at cells total number octets i x) (c : Change) where
+    (z : Result code.Step Refusal) (told : told_step i x z ≡ step_at cells total number octets i x) (c : Change) where
   abbrev due : Record → After
   due r = acted (slots_in r) (state r cells output) (any_key_of paged) total number octets (step_at cells total number octets i x)
 
-  pub acts_refuses : (q : Refusal) → z ≡ Refuses q → (c.answer ≡ answer.Refused q) × (c.moves ≡ false) → Makes (λ r. Holds r k i x) c cells output due
+  pub acts_refuses : (q : Refusal) → z ≡ Err q → (c.answer ≡ Err q) × (c.moves ≡ false) → Makes (λ r. Holds r k i x) c cells output due
   acts_refuses q e (h, m) r holds = rw (← told, e, h, m)
 
-  pub acts_repeats : z ≡ Repeats → c ≡ fronted (answer.HeldAlready i) i x → Makes (λ r. Holds r k i x) c cells output due
-  acts_repeats e h r holds =
-      rw (← told, e, comes_front r k i x holds c (answer.HeldAlready i) x h, h, holds.entry)
+  pub acts_repeats : (s : code.Step) → z ≡ Ok s → s ≡ Repeats → c ≡ fronted (Ok (answer.HeldAlready i)) i x → Makes (λ r. Holds r k i x) c cells output due
+  acts_repeats s e f h r holds =
+      rw (← told, e, f, comes_front r k i x holds c (Ok (answer.HeldAlready i)) x h, h, holds.entry)
 
-  pub acts_keeps : (cells' : List ℕ) → z ≡ Keeps → c ≡ fronted (answer.Kept i false) i (with_part x number (length octets))
+  pub acts_keeps : (cells' : List ℕ) (s : code.Step) → z ≡ Ok s → s ≡ Keeps → c ≡ fronted (Ok (answer.Kept i false)) i (with_part x number (length octets))
       → cells' ≡ placed cells (cell_at i number) octets → Makes (λ r. Holds r k i x) c cells' output due
-  acts_keeps cells' e h g r holds =
-      rw (← told, e, comes_front r k i x holds c (answer.Kept i false) (with_part x number (length octets)) h, h, g)
+  acts_keeps cells' s e f h g r holds =
+      rw (← told, e, f, comes_front r k i x holds c (Ok (answer.Kept i false)) (with_part x number (length octets)) h, h, g)
 
-  pub acts_finishes : (o : List ℕ) → z ≡ Finishes
+  pub acts_finishes : (o : List ℕ) (s : code.Step) → z ≡ Ok s → s ≡ Finishes
       → told_answer c.answer ≡ answer_of (length_in (packet_in k paged x.total (joined_octets cells x i number octets))) → c ≡ emptied c.answer i
       → o ≡ output_with (packet_in k paged x.total (joined_octets cells x i number octets)) output → Makes (λ r. Holds r k i x) c cells o due
-  acts_finishes o e h f g r holds =
-      let t : x.total ≡ total = finish_total cells total number octets i x (rw e at told) in
-      rw (← told, e, comes_free r k i x holds c c.answer f, ← t, holds.entry, of_key paged)
+  acts_finishes o s e d h f g r holds =
+      let t : x.total ≡ total = finish_total cells total number octets i x (rw (e, d) at told) in
+      rw (← told, e, d, comes_free r k i x holds c c.answer f, ← t, holds.entry, of_key paged)
       (handed_out (state r cells output) (with_slots r (freed r.slots i)) (told_answer c.answer) o (packet_in r.kind paged x.total (joined_octets cells x i number octets)) (rw holds.kind h) (rw holds.kind g))
 
 -- ---- a part
@@ -103,10 +105,10 @@ module _ (k : Kind) (key : Key) (o : Seat) (x : Slot) (cells output : List ℕ) 
       seat_more r k key o x cells output total number octets seated h i is (after (told_answer c.answer) (changed r c) cells' output') (makes r (rw is seated.holds))
 
   pub part_opens : (i : ℕ) (y : Slot) → o.held ≡ false → i ≡ o.slot → y ≡ opened key total
-      → c ≡ fronted (answer.Kept i o.displaced) i (with_part y number (length octets)) → cells' ≡ placed cells (cell_at i number) octets
+      → c ≡ fronted (Ok (answer.Kept i o.displaced)) i (with_part y number (length octets)) → cells' ≡ placed cells (cell_at i number) octets
       → Makes (λ r. Seated r k key o x) c cells' output part_due
   part_opens i y h is e f g r seated =
-      let front = comes_front r k i x (rw is seated.holds) c (answer.Kept i o.displaced) (with_part y number (length octets)) f in
+      let front = comes_front r k i x (rw is seated.holds) c (Ok (answer.Kept i o.displaced)) (with_part y number (length octets)) f in
       rw (front, f, e, is) (seat_opens r k key o x cells output total number octets seated h cells' (rw is at g))
 
   -- of the record that the code has
@@ -137,11 +139,11 @@ module _ (r : Record) (cells output : List ℕ) (b : Bool)
   pub fit_output : b ≡ false → length output ≡ most_octets
   fit_output e = (law.fit r cells output (sym told ∙ e)).1
 
-  module _ (paged : Bool) (octets : List ℕ) (z : Arrival) where
+  module _ (paged : Bool) (octets : List ℕ) (z : Result Arrival Refusal) where
     abbrev took : After
     took = taken_where_fit r.count (state r cells output) paged octets (told_arrival z)
 
-    pub takes_unfit : (a : response.Answer) (r' : Record) → b ≡ true → (a ≡ answer.Refused BufferOrRecord) × (r' ≡ r) → after (told_answer a) r' cells output ≡ took
+    pub takes_unfit : (a : Result response.Answer Refusal) (r' : Record) → b ≡ true → (a ≡ Err BufferOrRecord) × (r' ≡ r) → after (told_answer a) r' cells output ≡ took
     takes_unfit a r' e (h, f) = rw (← told, e, h, f)
 
     -- with these cells and this output the change comes to what is due of the record
@@ -150,9 +152,9 @@ module _ (r : Record) (cells output : List ℕ) (b : Bool)
 
     -- what the arm of a part relies on
     module _ (fit : b ≡ false) (start : ℕ) (own : List ℕ) (is : own ≡ drop start octets) (fits : Fitting r.kind octets z) (key : Key) (total number : ℕ)
-        (e : z ≡ arrival.Part key total number start) where
+        (q : Arrival) (e : z ≡ Ok q) (f : q ≡ arrival.Part key total number start) where
       admitted : Admitted r.kind key total number own
-      admitted = rw is (rw e at fits)
+      admitted = rw is (rw (e, f) at fits)
 
       sound : Sound r.count r cells
       sound = fit_sound fit
@@ -166,27 +168,28 @@ module _ (r : Record) (cells output : List ℕ) (b : Bool)
           rw is
           (law.whole_at r cells sound key total number own admitted o.slot (seat_found (slots_in r) r.slots key o seat h) output (fit_output fit))
 
-    module _ (fit : b ≡ false) (c : Change) where
-      pub takes_refused : (q : Refusal) → z ≡ arrival.Refused q → (c.answer ≡ answer.Refused q) × (c.moves ≡ false) → Done c cells output
-      takes_refused q e (h, m) = rw (← told, fit, e, h, m)
+    pub takes_refused : b ≡ false → (q : Refusal) (a : Result response.Answer Refusal) (r' : Record) → z ≡ Err q → (a ≡ Err q) × (r' ≡ r)
+        → after (told_answer a) r' cells output ≡ took
+    takes_refused fit q a r' e (h, f) = rw (← told, fit, e, h, f)
 
+    module _ (fit : b ≡ false) (c : Change) where
       module _ (start : ℕ) (own : List ℕ) (is : own ≡ drop start octets) where
-        pub takes_single : (o : List ℕ) → z ≡ arrival.Single start
+        pub takes_single : (o : List ℕ) (q : Arrival) → z ≡ Ok q → q ≡ arrival.Single start
             → (told_answer c.answer ≡ answer_of (length_in (packet_in r.kind paged 1 own))) × (c.moves ≡ false)
             → o ≡ output_with (packet_in r.kind paged 1 own) output → Done c cells o
-        takes_single o e (h, m) g =
-            rw (← told, fit, e, ← is, m) (handed_out (state r cells output) r (told_answer c.answer) o (packet_in r.kind paged 1 own) h g)
+        takes_single o q e f (h, m) g =
+            rw (← told, fit, e, f, ← is, m) (handed_out (state r cells output) r (told_answer c.answer) o (packet_in r.kind paged 1 own) h g)
 
-        pub takes_part : (key : Key) (total number : ℕ) (a : After) → z ≡ arrival.Part key total number start
+        pub takes_part : (key : Key) (total number : ℕ) (a : After) (q : Arrival) → z ≡ Ok q → q ≡ arrival.Part key total number start
             → a ≡ take_part (slots_in r) (state r cells output) key total number own → a ≡ took
-        takes_part key total number a e h = rw (← told, fit, e, ← is) (h ∙ ap (λ n. take_part n (state r cells output) key total number own) (law.own_number r cells (fit_sound fit)))
+        takes_part key total number a q e f h = rw (← told, fit, e, f, ← is) (h ∙ ap (λ n. take_part n (state r cells output) key total number own) (law.own_number r cells (fit_sound fit)))
 
-module _ (k : Kind) (octets : List ℕ) (z : Arrival) (start : ℕ) (own : List ℕ) (is : own ≡ drop start octets) (fits : Fitting k octets z) where
-  pub single_fits : (output : List ℕ) → z ≡ arrival.Single start → length output ≡ most_octets → length own ≤ length output
-  single_fits output e l = let f : length (drop start octets) ≤ most_octets = rw e at fits in omega (arith, ap length is)
+module _ (k : Kind) (octets : List ℕ) (z : Result Arrival Refusal) (start : ℕ) (own : List ℕ) (is : own ≡ drop start octets) (fits : Fitting k octets z) where
+  pub single_fits : (output : List ℕ) (q : Arrival) → z ≡ Ok q → q ≡ arrival.Single start → length output ≡ most_octets → length own ≤ length output
+  single_fits output q e g l = let f : length (drop start octets) ≤ most_octets = rw (e, g) at fits in omega (arith, ap length is)
 
 -- ---- taking
-module _ (r : Record) (cells output : List ℕ) (z : Arrival) (a : After) where
+module _ (r : Record) (cells output : List ℕ) (z : Result Arrival Refusal) (a : After) where
   pub message_taken : (sender : ℕ) (ud : List ℕ) → told_arrival z ≡ read_message r.kind sender ud
       → a ≡ taken_where_fit r.count (state r cells output) false ud (told_arrival z) → a ≡ take_message r.count (state r cells output) sender ud
   unfolding take_message
@@ -199,7 +202,7 @@ module _ (r : Record) (cells output : List ℕ) (z : Arrival) (a : After) where
 
 -- the record that is left, by whether a slot moved
 module _ (r : Record) (c : Change) (a : After) (cells output : List ℕ) (done : after (told_answer c.answer) (changed r c) cells output ≡ a) where
-  module _ (b : response.Answer) (r' : Record) where
+  module _ (b : Result response.Answer Refusal) (r' : Record) where
     pub moved_so : (r'' : Record) → c.moves ≡ true → r'' ≡ replaced c.front r c.slot c.entry → (b ≡ c.answer) × (r' ≡ r'')
         → after (told_answer b) r' cells output ≡ a
     moved_so r'' m e (f, g) = rw (f, g, e) (rw m at done)

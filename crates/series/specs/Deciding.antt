@@ -1,4 +1,7 @@
 -- What the functions that take a part cite of one another: the step that is due, and what acting may rely on.
+use Rattle.std.specs.declared.result.Result.{Result}
+use Rattle.std.specs.declared.result.Result.TheVariants.{Ok, Err}
+use Rattle.types.specs.declared.Refusal.{Refusal}
 use Rattle.std.specs.Prelude.{ℕ, ◌+◌, ◌≤◌, ◌<◌, Bool, true, false, not, cond, ◌||◌, List, [], ◌≡◌, length, get_or, drop, eqb, ltb}
 use Rattle.std.proofs.Math.Option.{Option, none, some}
 use Rattle.types.specs.declared.Kind.{Kind}
@@ -15,7 +18,7 @@ use Rattle.types.specs.declared.Answer as response
 use Rattle.types.specs.declared.Record.{Record}
 use Rattle.series.specs.declared.take.Step as declared
 use Rattle.series.specs.declared.take.Change.{Change}
-use Rattle.series.specs.declared.take.Step.TheVariants.{Refuses, Repeats, Keeps, Finishes}
+use Rattle.series.specs.declared.take.Step.TheVariants.{Repeats, Keeps, Finishes}
 use Rattle.slots.specs.declared.find.Seat.{Seat}
 use Rattle.slots.specs.Below.{all_below}
 use Rattle.slots.specs.Slots.{slot_at, at_front, no_key, free_slot, slots_in, fresh_record}
@@ -34,11 +37,11 @@ abbrev pub has_with : List Bool → ℕ → ℕ → ℕ → Bool
 has_with held total number i = not (ltb i total) || (eqb (i + 1) number || get_or held i false)
 
 -- what the enum of a decision says, of slot i, which is x
-abbrev pub told_step : ℕ → Slot → declared.Step → Step
-told_step i x (Refuses r) = refuses (refusal_number r)
-told_step i x Repeats = repeats i
-told_step i x Keeps = keeps i false x
-told_step i x Finishes = finishes i
+abbrev pub told_step : ℕ → Slot → Result declared.Step Refusal → Step
+told_step i x (Err r) = refuses (refusal_number r)
+told_step i x (Ok Repeats) = repeats i
+told_step i x (Ok Keeps) = keeps i false x
+told_step i x (Ok Finishes) = finishes i
 
 -- of `step_in`: it looks at the cells and at x, and at nothing else of the state
 abbrev pub step_at : List ℕ → ℕ → ℕ → List ℕ → ℕ → Slot → Step
@@ -70,10 +73,10 @@ pub record Whole (x : Slot) (i number : ℕ) (octets cells output : List ℕ) : 
 
 -- ---- the change
 -- slot i comes to the front, as x; slot i is freed
-abbrev pub fronted : response.Answer → ℕ → Slot → Change
+abbrev pub fronted : Result response.Answer Refusal → ℕ → Slot → Change
 fronted a i x = record { answer = a; moves = true; front = true; slot = i; entry = at_front x }
 
-abbrev pub emptied : response.Answer → ℕ → Change
+abbrev pub emptied : Result response.Answer Refusal → ℕ → Change
 emptied a i = record { answer = a; moves = true; front = false; slot = i; entry = free_slot }
 
 -- what a change makes of a record
@@ -99,10 +102,10 @@ Makes Such c cells output due = (r : Record) → Such r → after (told_answer c
 
 -- ---- an arrival
 -- what taking relies on of an arrival that reading these octets gave
-abbrev pub Fitting : Kind → List ℕ → arrival.Arrival → Type 0
-Fitting k o (arrival.TheVariants.Single start) = length (drop start o) ≤ most_octets
-Fitting k o (arrival.TheVariants.Part key total number start) = Admitted k key total number (drop start o)
-Fitting k o (arrival.TheVariants.Refused r) = Unit
+abbrev pub Fitting : Kind → List ℕ → Result arrival.Arrival Refusal → Type 0
+Fitting k o (Ok (arrival.TheVariants.Single start)) = length (drop start o) ≤ most_octets
+Fitting k o (Ok (arrival.TheVariants.Part key total number start)) = Admitted k key total number (drop start o)
+Fitting k o (Err r) = Unit
 
 -- of `take_message` and `take_page`: what follows on reading, with the test of 1 before it
 abbrev pub taken_where_fit : ℕ → State → Bool → List ℕ → Outcome Brought → After

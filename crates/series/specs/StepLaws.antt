@@ -1,5 +1,9 @@
 -- Laws of one step of taking, for every engine: which step is due, what acting on it comes to, and the packet that is handed out. Which is due
 -- for a part that is new stands in proofs/Completing.antt.
+use Rattle.std.specs.declared.result.Result.{Result}
+use Rattle.std.specs.declared.option.Option as option
+use Rattle.std.specs.declared.option.Option.TheVariants.{Some, None}
+use Rattle.types.specs.declared.Refusal.{Refusal}
 use Rattle.std.specs.Prelude.{ℕ, ◌+◌, ◌≤◌, ◌≡◌, refl, Bool, true, false, not, cond, ◌&&◌, ◌||◌, List, length, get_or, eqb, ltb}
 use Rattle.std.proofs.Common.{◌∙◌, arith, eq-eqb, ne_eqb, eqb-true}
 use Rattle.std.proofs.Math.Option.{Option, none, some}
@@ -13,8 +17,6 @@ use Rattle.joined.specs.Fronts.{packet_in, told_size, length_in, output_with, pa
 use Rattle.joined.specs.Laws.{packet_for_lem}
 use Rattle.types.specs.declared.Slot.{Slot}
 use Rattle.types.specs.declared.Record.{Record}
-use Rattle.joined.specs.declared.Size.{Size}
-use Rattle.joined.specs.declared.Size.TheVariants as size
 use Rattle.slots.specs.declared.find.Seat.{Seat}
 use Rattle.slots.specs.Below.{all_below}
 use Rattle.slots.specs.BelowLaws.{all_up_to}
@@ -71,16 +73,16 @@ pub part_stored : (i number : ℕ) (octets cells cells' : List ℕ) → Room i n
     → cells' ≡ placed cells (cell_at i number) octets
 part_stored i number octets cells cells' room e = e ∙ store_in_lem i number room.place cells room.size octets room.short
 
-module _ (z : Size) where
-  pub answer_packet : (n : ℕ) → z ≡ size.Octets n → packet n ≡ answer_of (told_size z)
+module _ (z : option.Option ℕ) where
+  pub answer_packet : (n : ℕ) → z ≡ Some n → packet n ≡ answer_of (told_size z)
   answer_packet n e = rw e
 
-  pub answer_none : z ≡ size.None → refused_by 9 ≡ answer_of (told_size z)
+  pub answer_none : z ≡ None → refused_by 9 ≡ answer_of (told_size z)
   answer_none e = rw e
 
 -- a single message or page, for which the output has room
 module _ (k : Kind) (paged : Bool) (octets output : List ℕ) (fits : length octets ≤ length output) where
-  pub single_answer : (z : Size) (a b : response.Answer) → told_size z ≡ length_in (packet_for k paged octets (length output)) → a ≡ b
+  pub single_answer : (z : option.Option ℕ) (a b : Result response.Answer Refusal) → told_size z ≡ length_in (packet_for k paged octets (length output)) → a ≡ b
       → told_answer b ≡ answer_of (told_size z) → told_answer a ≡ answer_of (length_in (packet_in k paged 1 octets))
   single_answer z a b e q h = rw (← packet_for_lem k paged octets (length output) fits, ← e, q) h
 
@@ -96,7 +98,7 @@ module _ (x : Slot) (i number : ℕ) (octets cells output : List ℕ) (room : Ro
       rw is (packet_of_lem k paged cells x.lengths x.total i number octets (length output) room.place.0 room.size w.lengths w.most room.short
       (rw (joined_pieces cells x i number octets) w.joined) ∙ rw (joined_pieces cells x i number octets))
 
-  pub whole_answer : (z : Size) (a : Answer) → told_size z ≡ length_in (series_packet k paged cells x.lengths t i number octets (length output))
+  pub whole_answer : (z : option.Option ℕ) (a : Answer) → told_size z ≡ length_in (series_packet k paged cells x.lengths t i number octets (length output))
       → a ≡ answer_of (told_size z) → a ≡ answer_of (length_in (packet_in k paged x.total (joined_octets cells x i number octets)))
   whole_answer z a e h = rw (← same_packet, ← e) h
 

@@ -1,5 +1,8 @@
 -- What taking may rely on: a sound record and an admitted part give it room, a series that is there joins to no more than the output holds,
 -- and what reading gives fits.
+use Rattle.std.specs.declared.result.Result.{Result}
+use Rattle.std.specs.declared.result.Result.TheVariants.{Ok, Err}
+use Rattle.types.specs.declared.Refusal.{Refusal}
 use Rattle.std.specs.Prelude.{ℕ, zero, suc, ◌+◌, ◌-◌, ◌≤◌, ◌<◌, ◌≡◌, refl, Bool, true, false, not, cond, ◌&&◌, ◌||◌, List, length, get_or, eqb, ltb, leb}
 use Rattle.std.proofs.Common.{sym, arith, Fits, ltb-true, ltb-false, le-ltb, leb-true, eqb-true}
 use Rattle.std.proofs.Math.Option.{Option, some}
@@ -11,7 +14,7 @@ use Rattle.types.specs.declared.Kind.{Kind}
 use Rattle.packet.specs.Packets.{most_octets}
 use Rattle.types.specs.declared.Key.{Key}
 use Rattle.types.specs.declared.Arrival.{Arrival}
-use Rattle.types.specs.declared.Arrival.TheVariants.{Single, Part, Refused}
+use Rattle.types.specs.declared.Arrival.TheVariants.{Single, Part}
 use Rattle.arrival.specs.Arrivals.{told_arrival}
 use Rattle.arrival.specs.Message.{most_parts, read_message}
 use Rattle.arrival.specs.Page.{page_content, read_page}
@@ -172,13 +175,13 @@ fit r cells output e =
     )
 
 -- ---- what reading gives
-pub message_fitting : (k : Kind) (sender : ℕ) (ud : List ℕ) (z : Arrival) → told_arrival z ≡ read_message k sender ud → ((i : ℕ) → Fits w8 (get_or ud i 0))
+pub message_fitting : (k : Kind) (sender : ℕ) (ud : List ℕ) (z : Result Arrival Refusal) → told_arrival z ≡ read_message k sender ud → ((i : ℕ) → Fits w8 (get_or ud i 0))
     → Fitting k ud z
-message_fitting k sender ud (Single start) e b = omega (arith, message_single k sender ud start (sym e))
-message_fitting k sender ud (Part key total number start) e b = message_part k sender ud key total number start (sym e) (λ i. omega (arith, b i))
-message_fitting k sender ud (Refused q) e b = tt
+message_fitting k sender ud (Ok (Single start)) e b = omega (arith, message_single k sender ud start (sym e))
+message_fitting k sender ud (Ok (Part key total number start)) e b = message_part k sender ud key total number start (sym e) (λ i. omega (arith, b i))
+message_fitting k sender ud (Err q) e b = tt
 
-pub page_fitting : (k : Kind) (page : List ℕ) (z : Arrival) → told_arrival z ≡ read_page k page → Fitting k page z
-page_fitting k page (Single start) e = omega (arith, page_single k page start (sym e))
-page_fitting k page (Part key total number start) e = page_part k page key total number start (sym e)
-page_fitting k page (Refused q) e = tt
+pub page_fitting : (k : Kind) (page : List ℕ) (z : Result Arrival Refusal) → told_arrival z ≡ read_page k page → Fitting k page z
+page_fitting k page (Ok (Single start)) e = omega (arith, page_single k page start (sym e))
+page_fitting k page (Ok (Part key total number start)) e = page_part k page key total number start (sym e)
+page_fitting k page (Err q) e = tt

@@ -1,4 +1,7 @@
 -- Taking a message or a page (01, "Series", "Numbers of refusal"): 1, then what reading refuses, then 7, 8, 9.
+use Rattle.std.specs.declared.result.Result.{Result}
+use Rattle.std.specs.declared.result.Result.TheVariants.{Ok, Err}
+use Rattle.types.specs.declared.Refusal.{Refusal}
 use Rattle.std.specs.Prelude.{ℕ, ◌+◌, Bool, true, false, not, cond, ◌||◌, List, ◌++◌, length, drop, eqb}
 use Rattle.std.proofs.Math.Option.{Option, none, some}
 use Rattle.octets.specs.Octets.{placed, same_octets}
@@ -32,11 +35,11 @@ pub data Answer : Type 0 where
   packet : (size : ℕ) → Answer
   refused_by : (number : ℕ) → Answer
 
-abbrev pub told_answer : declared.Answer → Answer
-told_answer (declared.TheVariants.Kept s d) = kept s d
-told_answer (declared.TheVariants.HeldAlready s) = held_already s
-told_answer (declared.TheVariants.Packet n) = packet n
-told_answer (declared.TheVariants.Refused r) = refused_by (refusal.refusal_number r)
+abbrev pub told_answer : Result declared.Answer Refusal → Answer
+told_answer (Ok (declared.TheVariants.Kept s d)) = kept s d
+told_answer (Ok (declared.TheVariants.HeldAlready s)) = held_already s
+told_answer (Ok (declared.TheVariants.Packet n)) = packet n
+told_answer (Err r) = refused_by (refusal.refusal_number r)
 
 pub record After : Type 0 where
   pub answer : Answer

@@ -2,6 +2,7 @@
 // before anything is written.
 ghost use Rattle.std.specs.Prelude.{◌≡◌, true, false, not, ◌||◌, ◌≤◌, ◌<◌, length, eqb};
 ghost use Rattle.octets.specs.Octets.{placed};
+ghost use Rattle.std.specs.declared.result.Result.TheVariants.{Ok};
 ghost use Rattle.types.specs.declared.Answer.TheVariants.{Kept};
 ghost use Rattle.packet.specs.Packets.{most_octets};
 ghost use Rattle.arrival.specs.Arrivals.{told_arrival};
@@ -16,7 +17,6 @@ ghost use Rattle.series.specs.Taking.{told_answer, after};
 ghost use Rattle.series.specs.Deciding.{all_with, told_step, step_at, any_key_of, answer_of, Room, Whole, fronted, emptied, Holds, Seated, Makes, Fitting, taken_where_fit};
 
 use formed::record_formed;
-use joined::Size;
 use slots::find::Seat;
 use slots::{find, order};
 use types::{
@@ -26,7 +26,6 @@ use types::{
 // What a part of a series that is there does.
 #[derive(Clone, Copy)]
 pub enum Step {
-    Refuses(Refusal),
     Repeats,
     Keeps,
     Finishes,
@@ -39,47 +38,50 @@ fn all_with(held: &[bool; PARTS], total: u8, number: u8) -> bool
     ensures { result ≡ all_with held.now total number }
 {
     let mut missing = 0;
-    let mut i = 0;
-    while i < PARTS {
-        let h = held[i];
+    for i in 0..PARTS {
         let k = i as u8;
-        let lacks = (k < total) & !((k + 1 == number) | h);
-        missing = missing | (lacks as u8);
-        i = i + 1;
+        let lacks = (k < total) & !((k + 1 == number) | held[i]);
+        missing |= lacks as u8;
     }
     missing == 0
 }
 
-// What part `number` of `total` does to the series x in slot i: 7 comes before 8. A part that is held is compared by its octets.
-fn decide(x: Slot, i: usize, total: u8, number: usize, cells: &[u8], part: &[u8]) -> Step
+// What part `number` of `total` does to the series x in slot i: 7 comes before 8. A part that is held is compared by its octets. What belongs to a
+// part is passed on as it is, here and below: `cells::packets::hand_out` takes it so, and most functions need only some of it.
+fn decide(
+    x: Slot,
+    i: usize,
+    total: u8,
+    number: usize,
+    cells: &[u8],
+    part: &[u8],
+) -> Result<Step, Refusal>
     requires place { Place i number }
     requires total_le_most_parts { x.total ≤ most_parts }
     requires reaches { Reaches i cells.now }
     ensures { told_step i x result ≡ step_at cells.now total number part.now i x }
 {
     let j = number - 1;
-    let h = x.held[j];
     if x.total != total {
-        return Step::Refuses(Refusal::OtherTotal);
+        return Err(Refusal::OtherTotal);
     }
-    if h {
-        let n = x.lengths[j];
-        if cells::same_part(cells, i, number, n, part) {
-            return Step::Repeats;
+    if x.held[j] {
+        if cells::same_part(cells, i, number, x.lengths[j], part) {
+            return Ok(Step::Repeats);
         }
-        return Step::Refuses(Refusal::OtherOctets);
+        return Err(Refusal::OtherOctets);
     }
     if all_with(&x.held, total, number as u8) {
-        return Step::Finishes;
+        return Ok(Step::Finishes);
     }
-    Step::Keeps
+    Ok(Step::Keeps)
 }
 
 // ---- acting
 // What is answered, and what becomes of the record: it stays as it is, or a slot moves, to the front or out, and is `entry` then.
 #[derive(Clone, Copy)]
 pub(crate) struct Change {
-    pub answer: Answer,
+    pub answer: Result<Answer, Refusal>,
     pub moves: bool,
     pub front: bool,
     pub slot: usize,
@@ -87,11 +89,11 @@ pub(crate) struct Change {
 }
 
 // The record stays as it is.
-fn unchanged(answer: Answer) -> Change
+fn unchanged(answer: Result<Answer, Refusal>) -> Change
     ensures { (result.answer ≡ answer) × (result.moves ≡ false) }
 {
     Change {
-        answer: answer,
+        answer,
         moves: false,
         front: false,
         slot: 0,
@@ -100,42 +102,36 @@ fn unchanged(answer: Answer) -> Change
 }
 
 // Slot i comes to the front, as x.
-fn to_front(answer: Answer, i: usize, x: Slot) -> Change
+fn to_front(answer: Result<Answer, Refusal>, i: usize, x: Slot) -> Change
     ensures { result ≡ fronted answer i x }
 {
-    let y = order::at_front(x);
     Change {
-        answer: answer,
+        answer,
         moves: true,
         front: true,
         slot: i,
-        entry: y,
+        entry: order::at_front(x),
     }
 }
 
 // Part `number` is written to its cell, and slot i, which is x without it, becomes the most recent.
 fn keep(i: usize, displaced: bool, x: Slot, number: usize, part: &[u8], cells: &mut [u8]) -> Change
     requires { Room i number part.now cells.old }
-    ensures value { result ≡ fronted (Kept i displaced) i (with_part x number (length part.now)) }
+    ensures value { result ≡ fronted (Ok (Kept i displaced)) i (with_part x number (length part.now)) }
     ensures cells_after { cells.new ≡ placed cells.old (cell_at i number) part.now }
 {
     cells::store(cells, i, number, part);
     let n = part.len() as u8;
-    let answer = Answer::Kept {
-        slot: i,
-        displaced: displaced,
-    };
+    let answer = Ok(Answer::Kept { slot: i, displaced });
     to_front(answer, i, find::with_part(x, number, n))
 }
 
 // What is answered if a packet of that length was handed out, and if there was none.
-pub fn handed(size: Size) -> Answer
+pub fn handed(size: Option<usize>) -> Result<Answer, Refusal>
     ensures { told_answer result ≡ answer_of (told_size size) }
 {
-    match size {
-        Size::Octets(n) => Answer::Packet { length: n },
-        Size::None => Answer::Refused(Refusal::MalformedPacket),
-    }
+    let length = size.ok_or(Refusal::MalformedPacket)?;
+    Ok(Answer::Packet { length })
 }
 
 // The series x in slot i, complete with the part that arrives, is handed out and freed; it is freed too if its parts join to no packet.
@@ -183,12 +179,11 @@ fn take_more(
     requires whole { Whole x i number part.now cells.old out.old }
     ensures { Makes (λ s. Holds s kind i x) result cells.new out.new (λ s. rule.acted (slots_in s) (rule.state s cells.old out.old) (any_key_of paged) total number part.now (step_at cells.old total number part.now i x)) }
 {
-    let step = decide(x, i, total, number, cells, part);
-    match step {
-        Step::Refuses(why) => return unchanged(Answer::Refused(why)),
-        Step::Repeats => return to_front(Answer::HeldAlready { slot: i }, i, x),
-        Step::Keeps => return keep(i, false, x, number, part, cells),
-        Step::Finishes => return finish(kind, paged, i, x, number, cells, part, out),
+    match decide(x, i, total, number, cells, part) {
+        Err(why) => unchanged(Err(why)),
+        Ok(Step::Repeats) => to_front(Ok(Answer::HeldAlready { slot: i }), i, x),
+        Ok(Step::Keeps) => keep(i, false, x, number, part, cells),
+        Ok(Step::Finishes) => finish(kind, paged, i, x, number, cells, part, out),
     }
 }
 
@@ -228,16 +223,14 @@ fn take_single(kind: Kind, paged: bool, part: &[u8], out: &mut [u8]) -> Change
     ensures answer_value { (told_answer result.answer ≡ answer_of (length_in (packet_in kind paged 1 part.now))) × (result.moves ≡ false) }
     ensures out_after { out.new ≡ output_with (packet_in kind paged 1 part.now) out.old }
 {
-    let size = joined::hand_out(kind, paged, part, out);
-    unchanged(handed(size))
+    unchanged(handed(joined::hand_out(kind, paged, part, out)))
 }
 
 // Whether a buffer lent is of another length than it must be, the cells by the record's number of slots, or the record is not well formed.
 fn unfit(formed: bool, count: u8, cells: usize, out: usize) -> bool
     ensures { result ≡ (not (eqb cells (cells_size count)) || not (eqb out most_octets) || not formed) }
 {
-    let n = count as usize;
-    (cells != n * SLOT_OCTETS) | (out != PACKET_OCTETS) | !formed
+    (cells != octets::wide(count) * SLOT_OCTETS) | (out != PACKET_OCTETS) | !formed
 }
 
 // Slot i of the record. It is read by a number that is known when this is compiled: by another the record would be copied first.
@@ -245,27 +238,21 @@ fn slot_of(state: Record, i: usize) -> Slot
     requires { i < most_slots }
     ensures { result ≡ slot_at state.slots i }
 {
-    if i == 0 {
-        return state.slots[0];
+    match i {
+        0 => state.slots[0],
+        1 => state.slots[1],
+        2 => state.slots[2],
+        3 => state.slots[3],
+        _ => state.slots[4],
     }
-    if i == 1 {
-        return state.slots[1];
-    }
-    if i == 2 {
-        return state.slots[2];
-    }
-    if i == 3 {
-        return state.slots[3];
-    }
-    state.slots[4]
 }
 
 // The answer and the record, as they are handed back.
-fn handed_back(answer: Answer, left: Record) -> Taken
+fn handed_back(answer: Result<Answer, Refusal>, left: Record) -> Taken
     ensures { (result.answer ≡ answer) × (result.record ≡ left) }
 {
     Taken {
-        answer: answer,
+        answer,
         record: left,
     }
 }
@@ -277,7 +264,7 @@ fn take_arrival(
     unfit: bool,
     paged: bool,
     octets: &[u8],
-    arrival: Arrival,
+    arrival: Result<Arrival, Refusal>,
     cells: &mut [u8],
     out: &mut [u8],
 ) -> Taken
@@ -286,11 +273,14 @@ fn take_arrival(
     ensures { after (told_answer result.answer) result.record cells.new out.new ≡ taken_where_fit state.count (rule.state state cells.old out.old) paged octets.now (told_arrival arrival) }
 {
     if unfit {
-        return handed_back(Answer::Refused(Refusal::BufferOrRecord), state);
+        return handed_back(Err(Refusal::BufferOrRecord), state);
     }
+    let brought = match arrival {
+        Err(why) => return handed_back(Err(why), state),
+        Ok(brought) => brought,
+    };
     let kind = state.kind;
-    let c = match arrival {
-        Arrival::Refused(why) => unchanged(Answer::Refused(why)),
+    let c = match brought {
         Arrival::Single { start } => {
             take_single(kind, paged, arrival::own_octets(octets, start), out)
         }
@@ -307,12 +297,10 @@ fn take_arrival(
             take_part(kind, key, o, x, total, number as usize, part, cells, out)
         }
     };
-    let answer = c.answer;
     if c.moves {
-        let x = c.entry;
-        return handed_back(answer, order::replaced(state, c.slot, c.front, x));
+        return handed_back(c.answer, order::replaced(state, c.slot, c.front, c.entry));
     }
-    handed_back(answer, state)
+    handed_back(c.answer, state)
 }
 
 // ---- taking

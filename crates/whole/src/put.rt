@@ -52,10 +52,8 @@ fn marks_of(x: Slot) -> [u8; PARTS]
 {
     let held = x.held;
     let mut marks = [0; PARTS];
-    let mut k = 0;
-    while k < PARTS {
+    for k in 0..PARTS {
         marks[k] = held[k] as u8;
-        k = k + 1;
     }
     marks
 }
@@ -85,9 +83,7 @@ pub fn state_put(record: Record, state: &mut [u8; STATE_OCTETS])
     state[0] = 1;
     state[1] = kind_octet(kind);
     state[2] = record.count;
-    let mut i = 0;
-    while i < SLOTS {
+    for i in 0..SLOTS {
         put_slot(slots[i], state, HEAD + BLOCK * i);
-        i = i + 1;
     }
 }

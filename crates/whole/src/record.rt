@@ -14,10 +14,8 @@ fn lengths_in(state: &[u8; STATE_OCTETS], i: usize) -> [u8; PARTS]
     ensures { result ≡ (state_slot state.now i).lengths }
 {
     let mut lengths = [0; PARTS];
-    let mut k = 0;
-    while k < PARTS {
+    for k in 0..PARTS {
         lengths[k] = length_at(state, i, k);
-        k = k + 1;
     }
     lengths
 }
@@ -28,10 +26,8 @@ fn marks_in(state: &[u8; STATE_OCTETS], i: usize) -> [bool; PARTS]
     ensures { result ≡ (state_slot state.now i).held }
 {
     let mut held = [false; PARTS];
-    let mut k = 0;
-    while k < PARTS {
+    for k in 0..PARTS {
         held[k] = mark_at(state, i, k);
-        k = k + 1;
     }
     held
 }
@@ -41,19 +37,13 @@ fn slot_in(state: &[u8; STATE_OCTETS], i: usize) -> Slot
     requires i_lt_most_slots { i < most_slots }
     ensures { result ≡ state_slot state.now i }
 {
-    let rank = rank_at(state, i);
-    let beats = beats_at(state, i);
-    let key = key_at(state, i);
-    let total = total_at(state, i);
-    let lengths = lengths_in(state, i);
-    let held = marks_in(state, i);
     Slot {
-        rank: rank,
-        beats: beats,
-        key: key,
-        total: total,
-        lengths: lengths,
-        held: held,
+        rank: rank_at(state, i),
+        beats: beats_at(state, i),
+        key: key_at(state, i),
+        total: total_at(state, i),
+        lengths: lengths_in(state, i),
+        held: marks_in(state, i),
     }
 }
 
@@ -62,16 +52,15 @@ pub fn state_record(state: &[u8; STATE_OCTETS]) -> Record
     ensures { result ≡ state_record state.now }
 {
     exact(state);
-    let slots = [
-        slot_in(state, 0),
-        slot_in(state, 1),
-        slot_in(state, 2),
-        slot_in(state, 3),
-        slot_in(state, 4),
-    ];
     Record {
         kind: kind_in(state),
         count: count_in(state),
-        slots: slots,
+        slots: [
+            slot_in(state, 0),
+            slot_in(state, 1),
+            slot_in(state, 2),
+            slot_in(state, 3),
+            slot_in(state, 4),
+        ],
     }
 }

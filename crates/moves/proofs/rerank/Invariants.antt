@@ -2,11 +2,7 @@
 -- record's own all are. Assumes nothing.
 use Rattle.layout.specs.Loops.{Turning}
 use Rattle.slots.specs.Order.{rank_after, reranked}
-use Prim.Native.Nat.{◌-◌}
 use Rattle.moves.proofs.rerank.Given as goal
 
 abbrev pub invariant-loop-j : goal.invariant-loop-j
 invariant-loop-j l = Turning (reranked (rank_after l.front l.r)) l.n l.initial.state l.state l.j
-
-abbrev pub decreases-loop-j : goal.decreases-loop-j
-decreases-loop-j l = l.n - l.j

@@ -6,5 +6,5 @@ use Rattle.series.proofs.take.decide.Goals as goal
 pub returns-then-same_part : goal.returns-then-same_part
 returns-then-same_part c = search decide_steps
 
-pub returns-then-h : goal.returns-then-h
-returns-then-h c = search decide_steps
+pub returns-then-x-j : goal.returns-then-x-j
+returns-then-x-j c = search decide_steps

@@ -2,11 +2,11 @@
 use Rattle.series.proofs.TakeSteps.{more_steps}
 use Rattle.series.proofs.take.take_more.Goals as goal
 
-pub returns-in-Repeats : goal.returns-in-Repeats
-returns-in-Repeats c = search more_steps
+pub returns-in-Ok-Repeats : goal.returns-in-Ok-Repeats
+returns-in-Ok-Repeats c = search more_steps
 
-pub returns-in-Keeps : goal.returns-in-Keeps
-returns-in-Keeps c = search more_steps
+pub returns-in-Ok-Keeps : goal.returns-in-Ok-Keeps
+returns-in-Ok-Keeps c = search more_steps
 
-pub returns-in-Finishes : goal.returns-in-Finishes
-returns-in-Finishes c = search more_steps
+pub returns-in-Ok-Finishes : goal.returns-in-Ok-Finishes
+returns-in-Ok-Finishes c = search more_steps
