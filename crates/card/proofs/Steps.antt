@@ -1,5 +1,8 @@
 -- What the proofs of `card` search: one law for each return and call, over plain variables. Each is a law of `series` for the record that the
 -- octets of the state hold.
+use Rattle.std.specs.declared.result.Result.{Result}
+use Rattle.std.specs.declared.option.Option as option
+use Rattle.std.specs.declared.result.Result.TheVariants.{Ok, Err}
 use Prim.Native.Nat.{ℕ, ◌+◌, ◌-◌, ◌≤◌}
 use mathlib.Core.Path.{◌≡◌, refl, sym, ap, ◌∙◌, subst}
 use mathlib.Core.Bool.{Bool, true, false, not, ◌&&◌, ◌||◌}
@@ -29,7 +32,6 @@ use Rattle.arrival.specs.Message.{most_parts, read_message}
 use Rattle.arrival.specs.Page.{read_page}
 use Rattle.arrival.specs.Keys.{of_pages}
 use Rattle.arrival.specs.Laws.{Admitted}
-use Rattle.joined.specs.declared.Size.{Size}
 use Rattle.joined.specs.Fronts.{packet_in, told_size, length_in, output_with}
 use Rattle.slots.specs.declared.find.Seat.{Seat}
 use Rattle.slots.specs.BelowLaws.{fault_from, fault_more, fault_through}
@@ -42,7 +44,7 @@ use Rattle.layout.specs.Changes.{state_slot, Became, Exact}
 use Rattle.cells.specs.Cells.{cells_size, cell_at, joined_octets}
 use Rattle.cells.specs.Handing.{Place, Reaches, has_cell, cell_start, series_packet}
 use Rattle.series.specs.declared.take.Step as code
-use Rattle.series.specs.declared.take.Step.TheVariants.{Refuses, Repeats, Keeps, Finishes}
+use Rattle.series.specs.declared.take.Step.TheVariants.{Repeats, Keeps, Finishes}
 use Rattle.series.specs.Taking.{Answer, After, told_answer, kept, held_already, refused_by, state, after, Step, refuses, repeats, keeps, finishes, acted, take_part, taken, unfit, take_message, take_page}
 use Rattle.series.specs.Calls.{Input, message, page}
 use Rattle.series.specs.Deciding.{all_with, has_with, told_step, step_at, any_key_of, answer_of, Room, Whole, Holds, Seated, Fitting}
@@ -99,7 +101,7 @@ module _ (s : List ℕ) (i number : ℕ) (octets cells output : List ℕ) (room 
   abbrev inside : Option (List ℕ)
   inside = packet_in (state_record s).kind paged (state_slot s i).total (joined_octets cells (state_slot s i) i number octets)
 
-  pub finish_answer : (z : Size) (a : response.Answer) → told_size z ≡ length_in (series_packet k paged cells ls t i number octets (length output))
+  pub finish_answer : (z : option.Option ℕ) (a : Result response.Answer Refusal) → told_size z ≡ length_in (series_packet k paged cells ls t i number octets (length output))
       → told_answer a ≡ answer_of (told_size z) → told_answer a ≡ answer_of (length_in inside)
   finish_answer z a e h =
       step.whole_answer (state_slot s i) i number octets cells output room w t (wide ∙ total) (state_record s).kind paged z (told_answer a) (rw (kind, lengths) at e) h
@@ -123,31 +125,31 @@ module _ (s t : List ℕ) (ok : known s ≡ true) (k : Kind) (i : ℕ) (y : Slot
 
 -- a part of the series in slot i, where step z is due
 module _ (s t : List ℕ) (ok : known s ≡ true) (cells output : List ℕ) (paged : Bool) (total number : ℕ) (octets : List ℕ) (i : ℕ)
-    (holds : Holds (state_record s) (state_record s).kind i (state_slot s i)) (z : code.Step)
+    (holds : Holds (state_record s) (state_record s).kind i (state_slot s i)) (z : Result code.Step Refusal)
     (told : told_step i (state_slot s i) z ≡ step_at cells total number octets i (state_slot s i)) where
   abbrev more_due : After
   more_due = acted (slots_in (state_record s)) (state (state_record s) cells output) (any_key_of paged) total number octets (step_at cells total number octets i (state_slot s i))
 
-  pub more_repeats : z ≡ Repeats → Became s t (replaced true (state_record s) i (at_front (state_slot s i))) → after (held_already i) (state_record t) cells output ≡ more_due
-  more_repeats e b = rw (← told, e, front_now s t ok (state_record s).kind i (state_slot s i) holds (state_slot s i) b)
+  pub more_repeats : (q : code.Step) → z ≡ Ok q → q ≡ Repeats → Became s t (replaced true (state_record s) i (at_front (state_slot s i))) → after (held_already i) (state_record t) cells output ≡ more_due
+  more_repeats q e f b = rw (← told, e, f, front_now s t ok (state_record s).kind i (state_slot s i) holds (state_slot s i) b)
 
-  pub more_keeps : (cells' : List ℕ) → z ≡ Keeps
+  pub more_keeps : (cells' : List ℕ) (q : code.Step) → z ≡ Ok q → q ≡ Keeps
       → Became s t (replaced true (state_record s) i (at_front (with_part (state_slot s i) number (length octets)))) → cells' ≡ placed cells (cell_at i number) octets
       → after (kept i false) (state_record t) cells' output ≡ more_due
-  more_keeps cells' e b g =
-      rw (← told, e, front_now s t ok (state_record s).kind i (state_slot s i) holds (with_part (state_slot s i) number (length octets)) b, g)
+  more_keeps cells' q e f b g =
+      rw (← told, e, f, front_now s t ok (state_record s).kind i (state_slot s i) holds (with_part (state_slot s i) number (length octets)) b, g)
 
-  pub more_finishes : (o : List ℕ) (a : response.Answer) → z ≡ Finishes
+  pub more_finishes : (o : List ℕ) (a : Result response.Answer Refusal) (q : code.Step) → z ≡ Ok q → q ≡ Finishes
       → told_answer a ≡ answer_of (length_in (packet_in (state_record s).kind paged (state_slot s i).total (joined_octets cells (state_slot s i) i number octets)))
       → o ≡ output_with (packet_in (state_record s).kind paged (state_slot s i).total (joined_octets cells (state_slot s i) i number octets)) output
       → Became s t (replaced false (state_record s) i free_slot) → after (told_answer a) (state_record t) cells o ≡ more_due
-  more_finishes o a e h g b =
-      let same : (state_slot s i).total ≡ total = step.finish_total cells total number octets i (state_slot s i) (rw e at told) in
-      rw (← told, e, free_now s t ok (state_record s).kind i (state_slot s i) holds b, ← same, step.of_key paged)
+  more_finishes o a q e f h g b =
+      let same : (state_slot s i).total ≡ total = step.finish_total cells total number octets i (state_slot s i) (rw (e, f) at told) in
+      rw (← told, e, f, free_now s t ok (state_record s).kind i (state_slot s i) holds b, ← same, step.of_key paged)
       (step.handed_out (state (state_record s) cells output) (with_slots (state_record s) (freed (state_record s).slots i)) (told_answer a) o (packet_in (state_record s).kind paged (state_slot s i).total (joined_octets cells (state_slot s i) i number octets)) h g)
 
-pub more_refuses : (s cells output : List ℕ) (paged : Bool) (total number : ℕ) (octets : List ℕ) (i : ℕ) (z : code.Step)
-    → told_step i (state_slot s i) z ≡ step_at cells total number octets i (state_slot s i) → (q : Refusal) → z ≡ Refuses q
+pub more_refuses : (s cells output : List ℕ) (paged : Bool) (total number : ℕ) (octets : List ℕ) (i : ℕ) (z : Result code.Step Refusal)
+    → told_step i (state_slot s i) z ≡ step_at cells total number octets i (state_slot s i) → (q : Refusal) → z ≡ Err q
     → after (refused_by (refusal_number q)) (state_record s) cells output
     ≡ acted (slots_in (state_record s)) (state (state_record s) cells output) (any_key_of paged) total number octets (step_at cells total number octets i (state_slot s i))
 more_refuses s cells output paged total number octets i z told q e = rw (← told, e)
@@ -176,35 +178,35 @@ module _ (s cells output : List ℕ) (fits : unfit (state_record s).count (state
   sound : Sound (state_record s).count (state_record s) cells
   sound = (law.fit (state_record s) cells output fits).0
 
-  module _ (octets : List ℕ) (z : Arrival) (paged : Bool) where
+  module _ (octets : List ℕ) (z : Result Arrival Refusal) (paged : Bool) where
     abbrev took : After
     took = taken (state_record s).count (state (state_record s) cells output) paged octets (told_arrival z)
 
-    pub takes_refused : (q : Refusal) → z ≡ arrival.Refused q → after (refused_by (refusal_number q)) (state_record s) cells output ≡ took
+    pub takes_refused : (q : Refusal) → z ≡ Err q → after (refused_by (refusal_number q)) (state_record s) cells output ≡ took
     takes_refused q e = rw e
 
     module _ (start : ℕ) (own : List ℕ) (is : own ≡ drop start octets) where
-      pub takes_single : (k : Kind) → k ≡ (state_record s).kind → (a : response.Answer) (o : List ℕ) → z ≡ arrival.Single start
+      pub takes_single : (k : Kind) → k ≡ (state_record s).kind → (a : Result response.Answer Refusal) (o : List ℕ) (q : Arrival) → z ≡ Ok q → q ≡ arrival.Single start
           → told_answer a ≡ answer_of (length_in (packet_in k paged 1 own)) → o ≡ output_with (packet_in k paged 1 own) output
           → after (told_answer a) (state_record s) cells o ≡ took
-      takes_single k kind a o e h g =
-          rw (e, ← is)
+      takes_single k kind a o q e f h g =
+          rw (e, f, ← is)
           (step.handed_out (state (state_record s) cells output) (state_record s) (told_answer a) o (packet_in (state_record s).kind paged 1 own) (rw kind at h) (rw kind at g))
 
-      pub takes_part : (key : Key) (total number : ℕ) (a : After) → z ≡ arrival.Part key total number start
+      pub takes_part : (key : Key) (total number : ℕ) (a : After) (q : Arrival) → z ≡ Ok q → q ≡ arrival.Part key total number start
           → a ≡ take_part (slots_in (state_record s)) (state (state_record s) cells output) key total number own → a ≡ took
-      takes_part key total number a e h =
-          rw (e, ← is) (h ∙ ap (λ n. take_part n (state (state_record s) cells output) key total number own) (law.own_number (state_record s) cells sound))
+      takes_part key total number a q e f h =
+          rw (e, f, ← is) (h ∙ ap (λ n. take_part n (state (state_record s) cells output) key total number own) (law.own_number (state_record s) cells sound))
 
-  module _ (octets : List ℕ) (z : Arrival) (reads : Fitting (state_record s).kind octets z) (start : ℕ) (own : List ℕ) (is : own ≡ drop start octets) where
-    pub single_fits : z ≡ arrival.Single start → length own ≤ length output
-    single_fits e =
-        let f : length (drop start octets) ≤ most_octets = rw e at reads in
+  module _ (octets : List ℕ) (z : Result Arrival Refusal) (reads : Fitting (state_record s).kind octets z) (start : ℕ) (own : List ℕ) (is : own ≡ drop start octets) where
+    pub single_fits : (q : Arrival) → z ≡ Ok q → q ≡ arrival.Single start → length own ≤ length output
+    single_fits q e g =
+        let f : length (drop start octets) ≤ most_octets = rw (e, g) at reads in
         let l : length output ≡ most_octets = (law.fit (state_record s) cells output fits).1 in omega (arith, ap length is)
 
-    module _ (key : Key) (total number : ℕ) (e : z ≡ arrival.Part key total number start) (o : Seat) (seat : o ≡ seat_of (slots_in (state_record s)) (state_record s).slots key) where
+    module _ (key : Key) (total number : ℕ) (q : Arrival) (e : z ≡ Ok q) (f : q ≡ arrival.Part key total number start) (o : Seat) (seat : o ≡ seat_of (slots_in (state_record s)) (state_record s).slots key) where
       admitted : Admitted (state_record s).kind key total number own
-      admitted = rw is (rw e at reads)
+      admitted = rw is (rw (e, f) at reads)
 
       pub seat_room : Room o.slot number own cells
       seat_room = law.room_at (state_record s) cells sound key total number own admitted o.slot (rw seat (law.seat_own (state_record s) cells sound key))
@@ -254,7 +256,7 @@ module _ (s cells output : List ℕ) (b : Bool)
     pub fit_rule : unfit (state_record s).count (state (state_record s) cells output) ≡ false
     fit_rule = sym (as_known fit_known) ∙ e
 
-    module _ (k₀ : Kind) (kind : k₀ ≡ (state_record s).kind) (z : Arrival) where
+    module _ (k₀ : Kind) (kind : k₀ ≡ (state_record s).kind) (z : Result Arrival Refusal) where
       pub message_fits : (sender : ℕ) (ud : List ℕ) → told_arrival z ≡ read_message k₀ sender ud → ((i : ℕ) → Fits w8 (get_or ud i 0)) → Fitting (state_record s).kind ud z
       message_fits sender ud read o = law.message_fitting (state_record s).kind sender ud z (rw kind at read) o
 

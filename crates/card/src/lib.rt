@@ -28,7 +28,7 @@ fn unfit(state: &[u8; STATE_OCTETS], cells: usize, out: usize) -> bool
 {
     exact(state);
     let formed = sound::state_formed(state);
-    let n = octets::wide(count_in(state));
+    let n = usize::from(count_in(state));
     (cells != n * SLOT_OCTETS) | (out != PACKET_OCTETS) | !formed
 }
 
@@ -37,26 +37,23 @@ fn take_arrival(
     state: &mut [u8; STATE_OCTETS],
     paged: bool,
     octets: &[u8],
-    arrival: Arrival,
+    arrival: Result<Arrival, Refusal>,
     cells: &mut [u8],
     out: &mut [u8],
-) -> Answer
+) -> Result<Answer, Refusal>
     requires state_value { known state.old ≡ true }
     requires out_value { rule.unfit (state_record state.old).count (rule.state (state_record state.old) cells.old out.old) ≡ false }
     requires fitting { Fitting (state_record state.old).kind octets.now arrival }
     ensures state_after { known state.new ≡ true }
     ensures out_after { after (told_answer result) (state_record state.new) cells.new out.new ≡ rule.taken (state_record state.old).count (rule.state (state_record state.old) cells.old out.old) paged octets.now (told_arrival arrival) }
 {
-    match arrival {
-        Arrival::Refused(why) => Answer::Refused(why),
-        Arrival::Single { start } => {
-            part::take_single(
-                kind_in(state),
-                paged,
-                arrival::own_octets(octets, start),
-                out,
-            )
-        }
+    match arrival? {
+        Arrival::Single { start } => part::take_single(
+            kind_in(state),
+            paged,
+            arrival::own_octets(octets, start),
+            out,
+        ),
         Arrival::Part {
             key,
             total,
@@ -78,11 +75,11 @@ pub fn take_message(
     ud: &[u8],
     cells: &mut [u8],
     out: &mut [u8],
-) -> Answer
+) -> Result<Answer, Refusal>
     ensures { taken_state (told_answer result) state.new cells.new out.new ≡ take_in state.old cells.old out.old (input.message sender ud.now) }
 {
     if unfit(state, cells.len(), out.len()) {
-        return Answer::Refused(Refusal::BufferOrRecord);
+        return Err(Refusal::BufferOrRecord);
     }
     let arrival = arrival::message::read_message(kind_in(state), sender, ud);
     let answer = take_arrival(state, false, ud, arrival, cells, out);
@@ -96,11 +93,11 @@ pub fn take_page(
     page: &[u8],
     cells: &mut [u8],
     out: &mut [u8],
-) -> Answer
+) -> Result<Answer, Refusal>
     ensures { taken_state (told_answer result) state.new cells.new out.new ≡ take_in state.old cells.old out.old (input.page page.now) }
 {
     if unfit(state, cells.len(), out.len()) {
-        return Answer::Refused(Refusal::BufferOrRecord);
+        return Err(Refusal::BufferOrRecord);
     }
     let arrival = arrival::page::read_page(kind_in(state), page);
     let answer = take_arrival(state, true, page, arrival, cells, out);

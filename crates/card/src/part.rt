@@ -25,13 +25,11 @@ fn all_with(state: &[u8; STATE_OCTETS], i: usize, total: u8, number: u8) -> bool
     ensures { result ≡ all_with (state_slot state.now i).held total number }
 {
     let mut missing = 0;
-    let mut j = 0;
-    while j < PARTS {
+    for j in 0..PARTS {
         let h = mark_at(state, i, j);
         let k = j as u8;
         let lacks = (k < total) & !((k + 1 == number) | h);
-        missing = missing | (lacks as u8);
-        j = j + 1;
+        missing |= u8::from(lacks);
     }
     missing == 0
 }
@@ -44,7 +42,7 @@ fn decide(
     number: usize,
     cells: &[u8],
     part: &[u8],
-) -> Step
+) -> Result<Step, Refusal>
     requires place { Place i number }
     requires i_bound { (state_slot state.now i).total ≤ most_parts }
     requires reaches { Reaches i cells.now }
@@ -52,18 +50,18 @@ fn decide(
 {
     let j = number - 1;
     if total_at(state, i) != total {
-        return Step::Refuses(Refusal::OtherTotal);
+        return Err(Refusal::OtherTotal);
     }
     if mark_at(state, i, j) {
         if cells::same_part(cells, i, number, length_at(state, i, j), part) {
-            return Step::Repeats;
+            return Ok(Step::Repeats);
         }
-        return Step::Refuses(Refusal::OtherOctets);
+        return Err(Refusal::OtherOctets);
     }
     if all_with(state, i, total, number as u8) {
-        return Step::Finishes;
+        return Ok(Step::Finishes);
     }
-    Step::Keeps
+    Ok(Step::Keeps)
 }
 
 // ---- acting
@@ -104,7 +102,7 @@ fn finish<'a>(
     cells: &'a [u8],
     part: &'a [u8],
     out: &mut [u8],
-) -> Answer
+) -> Result<Answer, Refusal>
     requires room { Room i number part.now cells.now }
     requires whole { Whole (state_slot state.old i) i number part.now cells.now out.old }
     ensures result_value { told_answer result ≡ answer_of (length_in (packet_in (state_record state.old).kind paged (state_slot state.old i).total (joined_octets cells.now (state_slot state.old i) i number part.now))) }
@@ -112,7 +110,7 @@ fn finish<'a>(
     ensures became { Became state.old state.new (replaced false (state_record state.old) i free_slot) }
 {
     let kind = kind_in(state);
-    let total = octets::wide(total_at(state, i));
+    let total = usize::from(total_at(state, i));
     let size = cells::packets::hand_out(
         kind,
         paged,
@@ -138,7 +136,7 @@ fn take_more(
     part: &[u8],
     cells: &mut [u8],
     out: &mut [u8],
-) -> Answer
+) -> Result<Answer, Refusal>
     requires state_value { known state.old ≡ true }
     requires holds { Holds (state_record state.old) (state_record state.old).kind i (state_slot state.old i) }
     requires room { Room i number part.now cells.old }
@@ -146,19 +144,17 @@ fn take_more(
     ensures state_after { known state.new ≡ true }
     ensures out_after { after (told_answer result) (state_record state.new) cells.new out.new ≡ rule.acted (slots_in (state_record state.old)) (rule.state (state_record state.old) cells.old out.old) (any_key_of paged) total number part.now (step_at cells.old total number part.now i (state_slot state.old i)) }
 {
-    let step = decide(state, i, total, number, cells, part);
-    match step {
-        Step::Refuses(why) => Answer::Refused(why),
+    match decide(state, i, total, number, cells, part)? {
         Step::Repeats => {
             moves::to_front(state, i);
-            Answer::HeldAlready { slot: i }
+            Ok(Answer::HeldAlready { slot: i })
         }
         Step::Keeps => {
             keep(state, i, number, part, cells);
-            Answer::Kept {
+            Ok(Answer::Kept {
                 slot: i,
                 displaced: false,
-            }
+            })
         }
         Step::Finishes => finish(state, paged, i, number, cells, part, out),
     }
@@ -174,7 +170,7 @@ pub(crate) fn take_part(
     part: &[u8],
     cells: &mut [u8],
     out: &mut [u8],
-) -> Answer
+) -> Result<Answer, Refusal>
     requires state_value { known state.old ≡ true }
     requires seated { Seated (state_record state.old) (state_record state.old).kind key o (state_slot state.old o.slot) }
     requires room { Room o.slot number part.now cells.old }
@@ -187,14 +183,19 @@ pub(crate) fn take_part(
         return take_more(state, key.width == 0, i, total, number, part, cells, out);
     }
     open(state, i, key, total, number, part, cells);
-    Answer::Kept {
+    Ok(Answer::Kept {
         slot: i,
         displaced: o.displaced,
-    }
+    })
 }
 
 // A single message or page is handed out; the state stays as it is.
-pub(crate) fn take_single(kind: Kind, paged: bool, part: &[u8], out: &mut [u8]) -> Answer
+pub(crate) fn take_single(
+    kind: Kind,
+    paged: bool,
+    part: &[u8],
+    out: &mut [u8],
+) -> Result<Answer, Refusal>
     requires { length part.now ≤ length out.old }
     ensures result_value { told_answer result ≡ answer_of (length_in (packet_in kind paged 1 part.now)) }
     ensures out_after { out.new ≡ output_with (packet_in kind paged 1 part.now) out.old }

@@ -1,10 +1,8 @@
 -- What the proofs of testing a state and of making one cite.
 use Prim.Native.Nat.{ℕ, ◌+◌, ◌≤◌}
-use mathlib.Core.Path.{◌≡◌, refl, sym, ap, ◌∙◌}
+use mathlib.Core.Path.{◌≡◌, refl, sym, ◌∙◌}
 use mathlib.Core.Bool.{Bool, true, false, not, ◌&&◌}
 use mathlib.Core.List.{List}
-use native.Mathlib.Omega.{arith}
-use native.Mathlib.Numerals.{add-one}
 use lib.ListN.{replicate, length, get_or, set}
 use lib.Dec.{eqb, leb, ltb}
 use borrow.Author.Rules.{rules}
@@ -18,7 +16,6 @@ use Rattle.slots.specs.Slots.{most_slots, fresh_record}
 use Rattle.layout.specs.Blocks.{laid}
 use Rattle.layout.specs.Layout.{state_size, format_number, mark_fits, marks_fit, slot_marks_fit, known, kind_octet, slot_octets, state_octets, on_state, making_state}
 use Rattle.layout.specs.OctetLaws.{octets_exact}
-use Rattle.layout.proofs.WriteSteps.{first_zero, zero_more, zero_all}
 
 -- ---- a test
 pub mark_wrong : (x : List ℕ) (k q : ℕ) → q ≡ get_or x (30 + k) 0 → ltb 1 q ≡ not (mark_fits x k)
@@ -38,17 +35,6 @@ unfolding known
 known_told s n b e f = rw (e, f)
 
 -- ---- a fresh state
-module _ (s : List ℕ) where
-  pub zero_starts : s ≡ first_zero 0 s
-  unfolding first_zero
-  zero_starts = refl
-
-  pub zero_goes_on : (t : List ℕ) (p : ℕ) → t ≡ first_zero p s → set t p 0 ≡ first_zero (p + 1) s
-  zero_goes_on t p e = rw (e, add-one) (zero_more p s)
-
-  pub zero_ends : (t : List ℕ) (p : ℕ) → length s ≡ state_size → state_size ≤ p → t ≡ first_zero p s → t ≡ replicate state_size 0
-  zero_ends t p e l f = f ∙ zero_all p s (omega arith) ∙ ap (λ (n : ℕ). replicate n 0) e
-
 pub fresh_written : (t : List ℕ) (kind : Kind) (k n : ℕ) → t ≡ replicate state_size 0 → k ≡ kind_octet kind
     → set (set (set t 0 1) 1 k) 2 n ≡ state_octets (fresh_record n kind)
 unfolding state_octets slot_octets laid
@@ -79,9 +65,6 @@ pub ruleset known_steps = (
   all_more,
   all_through,
   known_told,
-  zero_starts,
-  zero_goes_on,
-  zero_ends,
   fresh_written,
   fresh_other,
   fresh_made_lem,

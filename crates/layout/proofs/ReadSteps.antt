@@ -1,18 +1,23 @@
 -- What the proofs of reading and searching a state cite.
+use Rattle.std.specs.declared.option.Option as option
+use Rattle.std.specs.declared.option.Option.TheVariants.{Some, None}
+use Rattle.std.specs.Prelude.{MatchOption}
 use Prim.Native.Nat.{ℕ, ◌+◌, ◌≤◌, ◌<◌}
 use mathlib.Core.Path.{◌≡◌, refl}
-use mathlib.Core.Bool.{Bool, not, ◌&&◌}
+use mathlib.Core.Bool.{Bool, true, false, not, ◌&&◌}
 use mathlib.Core.List.{List}
-use lib.ListN.{get_or, take, drop}
+use native.Mathlib.Omega.{arith}
+use lib.ListN.{length, get_or, take, drop}
 use lib.Dec.{eqb}
 use borrow.Author.Rules.{rules}
 use borrow.Author.Tests.{eq-eqb, ne_eqb, lt-ltb, le-ltb}
 use Rattle.types.specs.declared.Kind.TheVariants.{Command, Response}
 use Rattle.types.specs.declared.Key.{Key}
 use Rattle.types.specs.declared.Slot.{Slot}
-use Rattle.slots.specs.Slots.{most_slots, same_key, bears, is_least_recent, slots_in}
+use Rattle.slots.specs.Slots.{most_slots, slot_at, same_key, bears, is_least_recent, find_in, slots_in}
+use Rattle.slots.specs.Found.{told_found}
 use Rattle.slots.specs.BelowLaws.{fault_from, fault_more, fault_through}
-use Rattle.slots.specs.SearchLaws.{search_laws}
+use Rattle.slots.specs.SearchLaws.{search_finds, search_ends, search_laws}
 use Rattle.layout.specs.Layout.{state_record, blank_at}
 use Rattle.layout.specs.Laws.{slots_long, rank_read, beats_read, total_read, key_read, length_read, length_none, mark_read, mark_none, mark_number, mark_number_none, lengths_read, lengths_none}
 
@@ -51,6 +56,16 @@ bears_told x key k r b e f g = rw (e, g, f)
 
 pub rank_told : (x : Slot) (q r : ℕ) → q ≡ x.rank → eqb q r ≡ is_least_recent r x
 rank_told x q r e = rw e
+
+-- what `find` over the numbers of the slots says of the search, if each number is asked whether its slot passes
+module _ (p : Slot → Bool) (m n : ℕ) (xs : List Slot) (long : length xs ≡ most_slots) (low : m ≤ most_slots) (is : m ≡ n) where
+  pub found_in : (r : option.Option ℕ)
+      → MatchOption r ((k : ℕ) → 0 ≤ k → k < m → p (slot_at xs k) ≡ false) (λ i. (0 ≤ i) × (i < m) × (p (slot_at xs i) ≡ true) × ((k : ℕ) → 0 ≤ k → k < i → p (slot_at xs k) ≡ false))
+      → told_found r ≡ find_in n p xs
+  found_in (Some i) h =
+      search_finds p m xs i (record { long = omega arith; within = omega (arith, h.1); none_yet = λ k l. h.3 k (omega arith) l }) n _ is h.1 refl h.2
+  found_in None h =
+      search_ends p m xs m (record { long = omega arith; within = omega arith; none_yet = λ k l. h k (omega arith) l }) n is (omega arith)
 
 pub ruleset read_steps = (
   rules,

@@ -7,7 +7,7 @@ ghost use Rattle.layout.specs.Layout.{state_record};
 ghost use Rattle.layout.specs.Changes.{state_slot};
 
 use crate::read::{key_at, rank_at, slots_in};
-use slots::find::{Found, Seat, same_key};
+use slots::find::{Seat, same_key};
 use types::{Key, STATE_OCTETS};
 
 // Whether slot i is used, by the series with that key.
@@ -27,39 +27,23 @@ fn has_rank(state: &[u8; STATE_OCTETS], i: usize, r: u8) -> bool
 }
 
 // The slot of the series with that key.
-pub fn find_key(state: &[u8; STATE_OCTETS], key: Key) -> Found
+pub fn find_key(state: &[u8; STATE_OCTETS], key: Key) -> Option<usize>
     ensures result_value { told_found result ≡ find_in (slots_in (state_record state.now)) (bears key) (state_record state.now).slots }
     ensures inside { Inside most_slots result }
 {
-    let n = slots_in(state);
-    let mut i = 0;
-    while i < n {
-        if bears(state, i, key) {
-            return Found::At(i);
-        }
-        i = i + 1;
-    }
-    Found::Nothing
+    (0..slots_in(state)).find(|&i| bears(state, i, key))
 }
 
 // The first slot of rank r.
-pub fn find_rank(state: &[u8; STATE_OCTETS], r: u8) -> Found
+pub fn find_rank(state: &[u8; STATE_OCTETS], r: u8) -> Option<usize>
     ensures result_value { told_found result ≡ find_in (slots_in (state_record state.now)) (is_least_recent r) (state_record state.now).slots }
     ensures inside { Inside most_slots result }
 {
-    let n = slots_in(state);
-    let mut i = 0;
-    while i < n {
-        if has_rank(state, i, r) {
-            return Found::At(i);
-        }
-        i = i + 1;
-    }
-    Found::Nothing
+    (0..slots_in(state)).find(|&i| has_rank(state, i, r))
 }
 
 // The lowest free slot.
-fn find_free(state: &[u8; STATE_OCTETS]) -> Found
+fn find_free(state: &[u8; STATE_OCTETS]) -> Option<usize>
     ensures result_value { told_found result ≡ find_in (slots_in (state_record state.now)) is_free (state_record state.now).slots }
     ensures inside { Inside most_slots result }
 {
@@ -70,10 +54,7 @@ fn find_free(state: &[u8; STATE_OCTETS]) -> Found
 fn least_recent(state: &[u8; STATE_OCTETS]) -> usize
     ensures { (result ≡ least_recent (slots_in (state_record state.now)) (state_record state.now).slots) × (result < most_slots) }
 {
-    match find_rank(state, slots_in(state) as u8) {
-        Found::At(i) => i,
-        Found::Nothing => 0,
-    }
+    find_rank(state, slots_in(state) as u8).unwrap_or(0)
 }
 
 // Where a new series goes: the lowest free slot, or with none free that of the least recent series.
@@ -81,12 +62,12 @@ fn new_seat(state: &[u8; STATE_OCTETS]) -> Seat
     ensures { (result ≡ new_seat (slots_in (state_record state.now)) (state_record state.now).slots) × (result.slot < most_slots) }
 {
     match find_free(state) {
-        Found::At(i) => Seat {
+        Some(i) => Seat {
             slot: i,
             held: false,
             displaced: false,
         },
-        Found::Nothing => Seat {
+        None => Seat {
             slot: least_recent(state),
             held: false,
             displaced: true,
@@ -99,11 +80,11 @@ pub fn seat_of(state: &[u8; STATE_OCTETS], key: Key) -> Seat
     ensures { (result ≡ seat_of (slots_in (state_record state.now)) (state_record state.now).slots key) × (result.slot < most_slots) }
 {
     match find_key(state, key) {
-        Found::At(i) => Seat {
+        Some(i) => Seat {
             slot: i,
             held: true,
             displaced: false,
         },
-        Found::Nothing => new_seat(state),
+        None => new_seat(state),
     }
 }

@@ -1,5 +1,5 @@
 // Which octets are a state, and a fresh one.
-ghost use Rattle.std.specs.Prelude.{◌≡◌, length, replicate};
+ghost use Rattle.std.specs.Prelude.{◌≡◌, length};
 ghost use Rattle.octets.specs.Octets.{Octets};
 ghost use Rattle.slots.specs.Below.{all_below};
 ghost use Rattle.slots.specs.Slots.{most_slots, fresh_record, told_making};
@@ -7,7 +7,7 @@ ghost use Rattle.layout.specs.Layout.{state_size, slot_block, marks_fit, slot_ma
 ghost use Rattle.layout.specs.Changes.{Exact};
 
 use crate::{MARKS, octet_at};
-use types::{Kind, Making, PARTS, Refusal, SLOTS, STATE_OCTETS};
+use types::{Kind, PARTS, Refusal, SLOTS, STATE_OCTETS};
 
 // How many octets there are. Of an array it is a constant, and a test of it is none at run time.
 fn length_of(s: &[u8]) -> usize
@@ -34,11 +34,9 @@ fn marks_fit(state: &[u8; STATE_OCTETS], i: usize) -> bool
     ensures { result ≡ marks_fit (slot_block i state.now) }
 {
     let mut bad = 0;
-    let mut k = 0;
-    while k < PARTS {
+    for k in 0..PARTS {
         let wrong = 1 < octet_at(state, i, MARKS + k);
-        bad = bad | (wrong as u8);
-        k = k + 1;
+        bad |= u8::from(wrong);
     }
     bad == 0
 }
@@ -47,10 +45,8 @@ fn all_marks_fit(state: &[u8; STATE_OCTETS]) -> bool
     ensures { result ≡ all_below most_slots (slot_marks_fit state.now) }
 {
     let mut ok = true;
-    let mut i = 0;
-    while i < SLOTS {
-        ok = ok & marks_fit(state, i);
-        i = i + 1;
+    for i in 0..SLOTS {
+        ok &= marks_fit(state, i);
     }
     ok
 }
@@ -74,38 +70,27 @@ pub fn kind_octet(kind: Kind) -> u8
     }
 }
 
-fn zero(state: &mut [u8; STATE_OCTETS])
-    requires { length state.old ≡ state_size }
-    ensures { state.new ≡ replicate state_size 0 }
-{
-    let mut p = 0;
-    while p < STATE_OCTETS {
-        state[p] = 0;
-        p = p + 1;
-    }
-}
-
 fn write_fresh(state: &mut [u8; STATE_OCTETS], kind: Kind, n: u8)
     requires { length state.old ≡ state_size }
     ensures { state.new ≡ state_octets (fresh_record n kind) }
 {
-    zero(state);
+    state.fill(0);
     state[0] = 1;
     state[1] = kind_octet(kind);
     state[2] = n;
 }
 
 // A state with no series, for one kind of packets, with n slots, 1 to 5; any other number is refused, and the octets are as they were.
-pub fn fresh(state: &mut [u8; STATE_OCTETS], kind: Kind, n: u8) -> Making
+pub fn fresh(state: &mut [u8; STATE_OCTETS], kind: Kind, n: u8) -> Result<(), Refusal>
     ensures { on_state (told_making result) state.new ≡ making_state state.old n kind }
 {
     let size = length_of(state);
     if size != STATE_OCTETS {
-        return Making::Refused(Refusal::BufferOrRecord);
+        return Err(Refusal::BufferOrRecord);
     }
     if (n != 0) & !((SLOTS as u8) < n) {
         write_fresh(state, kind, n);
-        return Making::Fresh;
+        return Ok(());
     }
-    Making::Refused(Refusal::SlotNumber)
+    Err(Refusal::SlotNumber)
 }

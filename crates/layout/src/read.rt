@@ -34,11 +34,7 @@ pub fn count_in(state: &[u8; STATE_OCTETS]) -> u8
 pub fn slots_in(state: &[u8; STATE_OCTETS]) -> usize
     ensures { (result ≡ slots_in (state_record state.now)) × (result ≤ most_slots) }
 {
-    let n = octets::wide(count_in(state));
-    if SLOTS < n {
-        return SLOTS;
-    }
-    n
+    usize::from(count_in(state)).min(SLOTS)
 }
 
 // ---- a slot
@@ -68,16 +64,10 @@ fn pair_at(state: &[u8; STATE_OCTETS], i: usize, p: usize) -> u16
     octets::number_of(octet_at(state, i, p), octet_at(state, i, p + 1))
 }
 
-fn full(x: u16) -> u32
-    ensures { result ≡ x }
-{
-    x as u32
-}
-
 fn wide_number(high: u16, low: u16) -> u32
     ensures { result ≡ wide_number high low }
 {
-    full(high) * 65536 + full(low)
+    u32::from(high) * 65536 + u32::from(low)
 }
 
 pub fn key_at(state: &[u8; STATE_OCTETS], i: usize) -> Key
@@ -91,9 +81,9 @@ pub fn key_at(state: &[u8; STATE_OCTETS], i: usize) -> Key
     let serial = pair_at(state, i, SERIAL);
     let identifier = pair_at(state, i, IDENTIFIER);
     Key {
-        sender: sender,
-        width: width,
-        reference: reference,
+        sender,
+        width,
+        reference,
         serial: SerialNumber(serial),
         identifier: MessageIdentifier(identifier),
     }
@@ -133,11 +123,9 @@ pub fn is_blank(state: &[u8; STATE_OCTETS], i: usize) -> bool
     ensures { result ≡ blank (slot_block i state.now) }
 {
     let mut bad = 0;
-    let mut p = 0;
-    while p < BEHIND {
+    for p in 0..BEHIND {
         let wrong = octet_at(state, i, p + 1) != 0;
-        bad = bad | (wrong as u8);
-        p = p + 1;
+        bad |= u8::from(wrong);
     }
     bad == 0
 }

@@ -42,15 +42,11 @@ pub fn set_front(state: &mut [u8; STATE_OCTETS], i: usize)
 pub fn put_part(state: &mut [u8; STATE_OCTETS], i: usize, number: usize, n: u8)
     ensures { Became state.old state.new (with_slot state.old i (with_part_in (state_slot state.old i) number n)) }
 {
-    if number == 0 {
-        return;
+    if (1..=PARTS).contains(&number) {
+        let k = number - 1;
+        set_octet(state, i, LENGTHS + k, n);
+        set_octet(state, i, MARKS + k, 1);
     }
-    if PARTS < number {
-        return;
-    }
-    let k = number - 1;
-    set_octet(state, i, LENGTHS + k, n);
-    set_octet(state, i, MARKS + k, 1);
 }
 
 // ---- a key
@@ -59,8 +55,9 @@ fn set_pair(state: &mut [u8; STATE_OCTETS], i: usize, p: usize, n: u16)
     requires { p + 1 < slot_size }
     ensures { Stored state.old state.new i (with_pair (slot_block i state.old) p n) }
 {
-    set_octet(state, i, p, (n / 256) as u8);
-    set_octet(state, i, p + 1, (n % 256) as u8);
+    let pair = octets::pair_of(n);
+    set_octet(state, i, p, pair.0);
+    set_octet(state, i, p + 1, pair.1);
 }
 
 // A number of 32 bits as two of 16.
@@ -111,13 +108,10 @@ fn put_key(state: &mut [u8; STATE_OCTETS], i: usize, key: Key)
 pub fn clear(state: &mut [u8; STATE_OCTETS], i: usize)
     ensures { Became state.old state.new (with_slot state.old i free_slot) }
 {
-    if SLOTS <= i {
-        return;
-    }
-    let mut p = 0;
-    while p < BLOCK {
-        set_octet(state, i, p, 0);
-        p = p + 1;
+    if i < SLOTS {
+        for p in 0..BLOCK {
+            set_octet(state, i, p, 0);
+        }
     }
 }
 

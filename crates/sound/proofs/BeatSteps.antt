@@ -54,10 +54,11 @@ module _ (s : List ℕ) (i limit : ℕ) (dead : Bool) (is : dead ≡ reached lim
 pub beats_start : (limit : ℕ) (s : List ℕ) → Beat limit (state_record s) (state_record s) 0 0
 beats_start limit s = beat_starts limit (state_record s) (slots_long s)
 
-pub beats_go_on : (limit : ℕ) (r : Record) (s t : List ℕ) (dropped i : ℕ) (dead : Bool) → Became s t (with_slot s i (after_beat limit (state_slot s i))) → known s ≡ true
-    → Beat limit r (state_record s) dropped i → i < most_slots → dead ≡ reached limit (raised (state_slot s i)) → Beat limit r (state_record t) (dropped + bool_byte dead) (i + 1)
-beats_go_on limit r s t dropped i dead h k b l d =
-    rw (h.now k) (beat_goes_on limit r (state_record s) dropped i b dead (after_beat limit (state_slot s i)) l d refl)
+pub beats_go_on : (limit : ℕ) (r : Record) (s t : List ℕ) (dropped i : ℕ) (dead : Bool) (more : ℕ) → Became s t (with_slot s i (after_beat limit (state_slot s i))) → known s ≡ true
+    → Beat limit r (state_record s) dropped i → i < most_slots → dead ≡ reached limit (raised (state_slot s i)) → more ≡ bool_byte dead
+    → Beat limit r (state_record t) (dropped + more) (i + 1)
+beats_go_on limit r s t dropped i dead more h k b l d e =
+    rw (e, h.now k) (beat_goes_on limit r (state_record s) dropped i b dead (after_beat limit (state_slot s i)) l d refl)
 
 pub still_state : (s t : List ℕ) (q : Record) → Became s t q → known s ≡ true → known t ≡ true
 still_state s t q h k = h.still k

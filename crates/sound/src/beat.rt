@@ -10,7 +10,7 @@ use crate::state_formed;
 use layout::known::exact;
 use layout::read::{beats_at, rank_at};
 use layout::write::{clear, set_beats};
-use types::{Beating, Refusal, SLOTS, STATE_OCTETS};
+use types::{Refusal, SLOTS, STATE_OCTETS};
 
 // Whether one beat more drops the series of slot i. One less than the limit is looked at, so that no count is raised past an octet.
 fn is_dead(state: &[u8; STATE_OCTETS], i: usize, limit: u8) -> bool
@@ -30,18 +30,15 @@ fn beat_slot(state: &mut [u8; STATE_OCTETS], i: usize, limit: u8) -> bool
     ensures value { result ≡ reached limit (raised (state_slot state.old i)) }
     ensures became { Became state.old state.new (with_slot state.old i (after_beat limit (state_slot state.old i))) }
 {
-    let dead = is_dead(state, i, limit);
-    if dead {
+    if is_dead(state, i, limit) {
         clear(state, i);
-        return dead;
+        return true;
     }
-    let free = rank_at(state, i) == 0;
-    if free {
-        return dead;
+    if rank_at(state, i) != 0 {
+        let n = beats_at(state, i);
+        set_beats(state, i, n + 1);
     }
-    let n = beats_at(state, i);
-    set_beats(state, i, n + 1);
-    dead
+    false
 }
 
 // A beat on each slot, and how many series it dropped.
@@ -53,26 +50,24 @@ fn beat_slots(state: &mut [u8; STATE_OCTETS], limit: u8) -> u8
     ensures state_after_2 { known state.new ≡ true }
 {
     let mut dropped = 0;
-    let mut i = 0;
-    while i < SLOTS {
-        dropped = dropped + (beat_slot(state, i, limit) as u8);
-        i = i + 1;
+    for i in 0..SLOTS {
+        dropped += u8::from(beat_slot(state, i, limit));
     }
     dropped
 }
 
 // A beat on a state: every series is one beat older, and each that has reached the limit is dropped. A refusal leaves every octet as it was.
-pub fn beat(state: &mut [u8; STATE_OCTETS], limit: u8) -> Beating
+pub fn beat(state: &mut [u8; STATE_OCTETS], limit: u8) -> Result<u8, Refusal>
     ensures { on_state (told_beating result) state.new ≡ beat_in state.old limit }
 {
     exact(state);
     if !state_formed(state) {
-        return Beating::Refused(Refusal::BufferOrRecord);
+        return Err(Refusal::BufferOrRecord);
     }
     if limit == 0 {
-        return Beating::Refused(Refusal::BeatLimit);
+        return Err(Refusal::BeatLimit);
     }
     let dropped = beat_slots(state, limit);
     exact(state);
-    Beating::Dropped(dropped)
+    Ok(dropped)
 }

@@ -11,7 +11,7 @@ ghost use Rattle.formed.specs.Pieces.{slots_hold, pair_apart, apart_before, slot
 ghost use Rattle.layout.specs.Layout.{state_record, known};
 ghost use Rattle.layout.specs.Changes.{state_slot};
 
-use formed::{fewest, key_formed, most, one, total_fits};
+use formed::{fewest, key_formed, most, total_fits};
 use layout::known::is_known;
 use layout::read::{
     beats_at, count_in, is_blank, key_at, kind_in, length_at, mark_at, mark_number, rank_at,
@@ -32,14 +32,12 @@ fn parts_formed(state: &[u8; STATE_OCTETS], i: usize) -> bool
     let high = most(key, 2);
     let total = total_at(state, i);
     let mut bad = 0;
-    let mut k = 0;
-    while k < PARTS {
+    for k in 0..PARTS {
         let h = mark_at(state, i, k);
         let n = length_at(state, i, k);
         let out = (total <= k as u8) | (n < low) | (high < n);
         let wrong = (h & out) | (!h & (n != 0));
-        bad = bad | (wrong as u8);
-        k = k + 1;
+        bad |= u8::from(wrong);
     }
     let first = length_at(state, i, 0);
     (bad == 0) & (first <= most(key, 1))
@@ -59,10 +57,8 @@ fn held_count(state: &[u8; STATE_OCTETS], i: usize) -> u8
     ensures { result ≡ held_count (state_slot state.now i) }
 {
     let mut m = 0;
-    let mut k = 0;
-    while k < PARTS {
-        m = m + mark_in(state, i, k);
-        k = k + 1;
+    for k in 0..PARTS {
+        m += mark_in(state, i, k);
     }
     m
 }
@@ -99,11 +95,9 @@ fn slots_formed(state: &[u8; STATE_OCTETS], n: usize, kind: Kind) -> bool
     ensures { result ≡ slots_hold n kind (state_record state.now).slots }
 {
     let mut ok = true;
-    let mut i = 0;
-    while i < SLOTS {
+    for i in 0..SLOTS {
         let r = rank_at(state, i);
-        ok = ok & (slot_formed(state, i, kind) & ((i < n) | (r == 0)));
-        i = i + 1;
+        ok &= slot_formed(state, i, kind) & ((i < n) | (r == 0));
     }
     ok
 }
@@ -152,10 +146,8 @@ fn apart_before(state: &[u8; STATE_OCTETS], i: usize) -> bool
         return true;
     }
     let mut ok = true;
-    let mut j = 0;
-    while j < i {
-        ok = ok & pair_apart(state, i, j);
-        j = j + 1;
+    for j in 0..i {
+        ok &= pair_apart(state, i, j);
     }
     ok
 }
@@ -165,10 +157,8 @@ fn slots_apart(state: &[u8; STATE_OCTETS], n: usize) -> bool
     ensures { result ≡ slots_apart n (state_record state.now).slots }
 {
     let mut ok = true;
-    let mut i = 0;
-    while i < n {
-        ok = ok & apart_before(state, i);
-        i = i + 1;
+    for i in 0..n {
+        ok &= apart_before(state, i);
     }
     ok
 }
@@ -179,11 +169,8 @@ fn used_count(state: &[u8; STATE_OCTETS], n: usize) -> u8
     ensures { (result ≡ used_count n (state_record state.now).slots) × (result ≤ most_slots) }
 {
     let mut m = 0;
-    let mut i = 0;
-    while i < n {
-        let r = rank_at(state, i);
-        m = m + one(r != 0);
-        i = i + 1;
+    for i in 0..n {
+        m += u8::from(rank_at(state, i) != 0);
     }
     m
 }
@@ -193,10 +180,8 @@ fn is_rank(state: &[u8; STATE_OCTETS], n: usize, r: u8) -> bool
     ensures { result ≡ is_rank n (state_record state.now).slots r }
 {
     let mut any = false;
-    let mut i = 0;
-    while i < n {
-        any = any | (rank_at(state, i) == r);
-        i = i + 1;
+    for i in 0..n {
+        any |= rank_at(state, i) == r;
     }
     any
 }
@@ -208,10 +193,8 @@ fn ranked(state: &[u8; STATE_OCTETS], n: usize) -> bool
 {
     let m = used_count(state, n);
     let mut ok = true;
-    let mut r = 0;
-    while r < m {
-        ok = ok & is_rank(state, n, r + 1);
-        r = r + 1;
+    for r in 0..m {
+        ok &= is_rank(state, n, r + 1);
     }
     ok
 }
@@ -223,7 +206,7 @@ fn record_formed(state: &[u8; STATE_OCTETS]) -> bool
     ensures { result ≡ record_formed (state_record state.now).count (state_record state.now) }
 {
     let kind = kind_in(state);
-    let n = octets::wide(count_in(state));
+    let n = usize::from(count_in(state));
     if (n != 0) & !(SLOTS < n) {
         return slots_formed(state, n, kind) & slots_apart(state, n) & ranked(state, n);
     }
@@ -234,8 +217,5 @@ fn record_formed(state: &[u8; STATE_OCTETS]) -> bool
 pub fn state_formed(state: &[u8; STATE_OCTETS]) -> bool
     ensures { result ≡ (known state.now && record_formed (state_record state.now).count (state_record state.now)) }
 {
-    if is_known(state) {
-        return record_formed(state);
-    }
-    false
+    is_known(state) && record_formed(state)
 }

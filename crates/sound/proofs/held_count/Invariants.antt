@@ -3,12 +3,9 @@ use Rattle.slots.specs.Below.{count_below}
 use Rattle.formed.specs.Formed.{mark_at}
 use Rattle.arrival.specs.Message.{most_parts}
 use Rattle.layout.specs.Changes.{state_slot}
-use Prim.Native.Nat.{◌-◌, ◌≤◌}
+use Prim.Native.Nat.{◌≤◌}
 use mathlib.Core.Path.{◌≡◌}
 use Rattle.sound.proofs.held_count.Given as goal
 
 abbrev pub invariant-loop-k : goal.invariant-loop-k
 invariant-loop-k l = (l.k ≤ most_parts) × (l.m ≤ l.k) × (l.m ≡ count_below l.k (mark_at (state_slot l.state l.i)))
-
-abbrev pub decreases-loop-k : goal.decreases-loop-k
-decreases-loop-k l = most_parts - l.k

@@ -2,12 +2,9 @@
 use Rattle.slots.specs.Below.{any_below}
 use lib.Dec.{eqb}
 use Rattle.layout.specs.Changes.{state_slot}
-use Prim.Native.Nat.{◌-◌, ◌≤◌}
+use Prim.Native.Nat.{◌≤◌}
 use mathlib.Core.Path.{◌≡◌}
 use Rattle.sound.proofs.is_rank.Given as goal
 
 abbrev pub invariant-loop-i : goal.invariant-loop-i
 invariant-loop-i l = (l.i ≤ l.n) × (l.any ≡ any_below l.i (λ j. eqb (state_slot l.state j).rank l.r))
-
-abbrev pub decreases-loop-i : goal.decreases-loop-i
-decreases-loop-i l = l.n - l.i

@@ -2,12 +2,9 @@
 use Rattle.slots.specs.Below.{all_below}
 use Rattle.formed.specs.Formed.{is_rank}
 use Rattle.layout.specs.Layout.{state_record}
-use Prim.Native.Nat.{◌+◌, ◌-◌, ◌≤◌}
+use Prim.Native.Nat.{◌+◌, ◌≤◌}
 use mathlib.Core.Path.{◌≡◌}
 use Rattle.sound.proofs.ranked.Given as goal
 
 abbrev pub invariant-loop-r : goal.invariant-loop-r
 invariant-loop-r l = (l.r ≤ l.m) × (l.ok ≡ all_below l.r (λ q. is_rank l.n (state_record l.state).slots (q + 1)))
-
-abbrev pub decreases-loop-r : goal.decreases-loop-r
-decreases-loop-r l = l.m - l.r

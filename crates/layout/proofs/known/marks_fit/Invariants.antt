@@ -2,12 +2,9 @@
 use Rattle.slots.specs.Below.{all_below, fault}
 use Rattle.layout.specs.Layout.{mark_fits, slot_block}
 use Rattle.arrival.specs.Message.{most_parts}
-use Prim.Native.Nat.{◌-◌, ◌≤◌}
+use Prim.Native.Nat.{◌≤◌}
 use mathlib.Core.Path.{◌≡◌}
 use Rattle.layout.proofs.known.marks_fit.Given as goal
 
 abbrev pub invariant-loop-k : goal.invariant-loop-k
 invariant-loop-k l = (l.k ≤ most_parts) × (l.bad ≡ fault (all_below l.k (mark_fits (slot_block l.i l.state))))
-
-abbrev pub decreases-loop-k : goal.decreases-loop-k
-decreases-loop-k l = most_parts - l.k

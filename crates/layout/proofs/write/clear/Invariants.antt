@@ -3,12 +3,7 @@
 use Rattle.layout.specs.Changes.{Stored}
 use Rattle.layout.proofs.WriteSteps.{first_zero}
 use Rattle.layout.specs.Layout.{slot_block}
-use Rattle.layout.specs.Blocks.{slot_size}
-use Prim.Native.Nat.{◌-◌}
 use Rattle.layout.proofs.write.clear.Given as goal
 
 abbrev pub invariant-loop-p : goal.invariant-loop-p
 invariant-loop-p l = Stored l.initial.state l.state l.i (first_zero l.p (slot_block l.i l.initial.state))
-
-abbrev pub decreases-loop-p : goal.decreases-loop-p
-decreases-loop-p l = slot_size - l.p

@@ -2,11 +2,11 @@
 use Rattle.sound.proofs.BeatSteps.{beat_steps}
 use Rattle.sound.proofs.beat.beat_slot.Goals as goal
 
-pub returns-then-dead-clause-became : goal.returns-then-dead-clause-became
-returns-then-dead-clause-became c = search beat_steps
+pub returns-then-is_dead-clause-became : goal.returns-then-is_dead-clause-became
+returns-then-is_dead-clause-became c = search beat_steps
 
-pub returns-then-free-clause-became : goal.returns-then-free-clause-became
-returns-then-free-clause-became c = search beat_steps
+pub returns-then-rank_at-ne0-clause-became : goal.returns-then-rank_at-ne0-clause-became
+returns-then-rank_at-ne0-clause-became c = search beat_steps
 
-pub returns-clause-became : goal.returns-clause-became
-returns-clause-became c = search beat_steps
+pub returns-else-rank_at-ne0-clause-became : goal.returns-else-rank_at-ne0-clause-became
+returns-else-rank_at-ne0-clause-became c = search beat_steps

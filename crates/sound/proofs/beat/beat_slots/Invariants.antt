@@ -2,14 +2,9 @@
 -- they were; behind the last slot this is the rule. Assumes nothing.
 use Rattle.beats.specs.Turns.{Beat}
 use Rattle.layout.specs.Layout.{known, state_record}
-use Rattle.slots.specs.Slots.{most_slots}
 use mathlib.Core.Bool.{true}
-use Prim.Native.Nat.{◌-◌}
 use mathlib.Core.Path.{◌≡◌}
 use Rattle.sound.proofs.beat.beat_slots.Given as goal
 
 abbrev pub invariant-loop-i : goal.invariant-loop-i
 invariant-loop-i l = (known l.state ≡ true) × Beat l.limit (state_record l.initial.state) (state_record l.state) l.dropped l.i
-
-abbrev pub decreases-loop-i : goal.decreases-loop-i
-decreases-loop-i l = most_slots - l.i
