@@ -15,8 +15,8 @@ use logs::entries::{beats_at, rank_at, slot_at};
 use logs::sound::{is_slot_number, state_formed};
 use logs::walks::{dead_count, is_due};
 use types::{
-    Beating, ENTRY_HEAD, ENTRY_OCTETS, Key, Kind, LOG_ENTRIES, LOG_OCTETS, Log, LogBeaten, LogMade,
-    Making, PART_OCTETS, Refusal,
+    ENTRY_HEAD, ENTRY_OCTETS, Key, Kind, LOG_ENTRIES, LOG_OCTETS, Log, LogBeaten, LogMade,
+    PART_OCTETS, Refusal,
 };
 
 // ---- a fresh log
@@ -26,18 +26,18 @@ pub fn fresh_log(kind: Kind, n: u8) -> LogMade
 {
     if is_slot_number(n) {
         return LogMade {
-            answer: Making::Fresh,
+            answer: Ok(()),
             log: Log {
-                kind: kind,
+                kind,
                 slots: n,
                 count: 0,
             },
         };
     }
     LogMade {
-        answer: Making::Refused(Refusal::SlotNumber),
+        answer: Err(Refusal::SlotNumber),
         log: Log {
-            kind: kind,
+            kind,
             slots: 0,
             count: 0,
         },
@@ -126,7 +126,7 @@ fn note(entries: &mut [u8], i: u8, rank: u8, beats: u8)
     requires { (i < most_entries) × (length entries.old ≡ log_octets) }
     ensures { entries.new ≡ renoted entries.old i rank beats }
 {
-    let at = (i as usize) * ENTRY_OCTETS;
+    let at = usize::from(i) * ENTRY_OCTETS;
     let r = at + 1;
     let b = at + 2;
     entries[r] = rank;
@@ -149,10 +149,8 @@ fn alter_all(entries: &mut [u8], count: u8, change: Change)
     requires { (count ≤ most_entries) × (length entries.old ≡ log_octets) }
     ensures { entries_from entries.new 0 count ≡ map (alter change) (entries_from entries.old 0 count) }
 {
-    let mut i = 0;
-    while i < count {
+    for i in 0..count {
         alter(entries, i, change);
-        i = i + 1;
     }
 }
 
@@ -162,7 +160,7 @@ fn octets_of<'a>(entries: &'a [u8], i: u8) -> &'a [u8]
     requires { (i < most_entries) × (length entries.now ≡ log_octets) }
     ensures { result.now ≡ entry_octets_at entries.now i }
 {
-    let from = (i as usize) * ENTRY_OCTETS;
+    let from = usize::from(i) * ENTRY_OCTETS;
     let end = from + ENTRY_OCTETS;
     &entries[from..end]
 }
@@ -207,10 +205,8 @@ fn leave_out(entries: &mut [u8], count: u8, gone: Gone) -> u8
     ensures { (entries_from entries.new 0 result ≡ only (remains gone) (entries_from entries.old 0 count)) × (result ≤ count) }
 {
     let mut to = 0;
-    let mut i = 0;
-    while i < count {
+    for i in 0..count {
         to = keep_entry(entries, i, to, gone);
-        i = i + 1;
     }
     to
 }
@@ -268,14 +264,7 @@ pub fn touch_series(entries: &mut [u8], count: u8, slot: u8, rank: u8) -> u8
     if LOG_ENTRIES < count as usize {
         return count;
     }
-    alter_all(
-        entries,
-        count,
-        Change::Touch {
-            slot: slot,
-            rank: rank,
-        },
-    );
+    alter_all(entries, count, Change::Touch { slot, rank });
     count
 }
 
@@ -301,14 +290,7 @@ pub fn keep_part(
     if PART_OCTETS < part.len() {
         return count;
     }
-    alter_all(
-        entries,
-        count,
-        Change::Touch {
-            slot: slot,
-            rank: rank,
-        },
-    );
+    alter_all(entries, count, Change::Touch { slot, rank });
     append(entries, count, slot, key, total, number, part);
     count + 1
 }
@@ -371,23 +353,23 @@ pub fn beat_log(log: Log, limit: u8, entries: &mut [u8]) -> LogBeaten
     let formed = state_formed(log, entries);
     if !formed {
         return LogBeaten {
-            answer: Beating::Refused(Refusal::BufferOrRecord),
-            log: log,
+            answer: Err(Refusal::BufferOrRecord),
+            log,
         };
     }
     if limit == 0 {
         return LogBeaten {
-            answer: Beating::Refused(Refusal::BeatLimit),
-            log: log,
+            answer: Err(Refusal::BeatLimit),
+            log,
         };
     }
     let kind = log.kind;
     let dropped = dead_count(entries, log.count, log.slots, limit);
     let left = age_all(entries, log.count, limit);
     LogBeaten {
-        answer: Beating::Dropped(dropped),
+        answer: Ok(dropped),
         log: Log {
-            kind: kind,
+            kind,
             slots: log.slots,
             count: left,
         },

@@ -103,9 +103,9 @@ module _ (p : Entry → Bool) (lent : List ℕ) (from m : ℕ) where
         let h : p (log_entry_at lent i) ≡ true = sym e ∙ t in
         rw (lt-ltb i m l) (sym (sym w.left ∙ ap (first_entry p) (next_entries lent m i l) ∙ rw h))
 
-    pub walk_ends : m ≤ i → found_at lent m i ≡ first_entry p (entries_from lent from (m - from))
+    pub walk_ends : m ≤ i → found_at lent m m ≡ first_entry p (entries_from lent from (m - from))
     unfolding first_entry
-    walk_ends l = rw (le-ltb i m l) (sym (sym w.left ∙ ap (first_entry p) (no_entries lent m i l)))
+    walk_ends l = rw (le-ltb m m (omega arith)) (sym (sym w.left ∙ ap (first_entry p) (no_entries lent m i l)))
 
 -- whether there is one
 pub has_told : (p : Entry → Bool) (lent : List ℕ) (m r : ℕ) → found_at lent m r ≡ first_entry p (entries_from lent 0 (m - 0)) → ltb r m ≡ has_entry p (entries_from lent 0 m)
@@ -159,9 +159,9 @@ module _ (lent : List ℕ) (m n : ℕ) where
     free_finds true l e t = absurd (clash false t refl)
     free_finds false l e t = rw (lt-ltb i n l) (next_slot l false (sym e))
 
-    pub free_ends : n ≤ i → free_at n i ≡ free_from (entries_from lent 0 m) 0 n
+    pub free_ends : n ≤ i → free_at n n ≡ free_from (entries_from lent 0 m) 0 n
     unfolding free_from
-    free_ends l = let z : n - i ≡ 0 = omega arith in let h = w.left in rw (le-ltb i n l) (rw z at h)
+    free_ends l = let z : n - i ≡ 0 = omega arith in let h = w.left in rw (le-ltb n n (omega arith)) (rw z at h)
 
 -- so many of the slots before i are dropped
 pub record Drops (log : List Entry) (limit dropped i : ℕ) : Type 0 where
@@ -181,13 +181,14 @@ module _ (lent : List ℕ) (m limit : ℕ) where
   drops_start = record { counted = count_from (λ j. has_entry (dead limit j) (entries_from lent 0 m)); few = omega arith }
 
   module _ (dropped i : ℕ) (w : Drops (entries_from lent 0 m) limit dropped i) where
-    pub drops_fit : (b : Bool) (n : ℕ) → i < n → n < 256 → Fits w8 (dropped + bool_byte b)
-    drops_fit b n l h = omega (arith, w.few, small b)
+    pub drops_fit : (b : Bool) (more n : ℕ) → more ≡ bool_byte b → i < n → n < 256 → Fits w8 (dropped + more)
+    drops_fit b more n e l h = omega (arith, w.few, small b, e)
 
-    pub drops_go_on : (b : Bool) → b ≡ has_entry (dead limit i) (entries_from lent 0 m) → Drops (entries_from lent 0 m) limit (dropped + bool_byte b) (i + 1)
-    drops_go_on b e = record {
-      counted = count_more (λ j. has_entry (dead limit j) (entries_from lent 0 m)) i dropped (bool_byte b) w.counted (rw (← e) (byte b));
-      few = omega (arith, w.few, small b);
+    pub drops_go_on : (b : Bool) (more : ℕ) → more ≡ bool_byte b → b ≡ has_entry (dead limit i) (entries_from lent 0 m)
+        → Drops (entries_from lent 0 m) limit (dropped + more) (i + 1)
+    drops_go_on b more f e = record {
+      counted = count_more (λ j. has_entry (dead limit j) (entries_from lent 0 m)) i dropped more w.counted (rw (← e) (f ∙ byte b));
+      few = omega (arith, w.few, small b, f);
     }
 
     pub drops_end : (n : ℕ) → i ≤ n → n ≤ i → dropped ≡ log_dropped n limit (entries_from lent 0 m)

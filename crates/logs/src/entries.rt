@@ -12,7 +12,7 @@ fn octet(entries: &[u8], i: u8, k: usize) -> u8
     requires { k < entry_octets }
     ensures { result ≡ entry_octet entries.now i k }
 {
-    let at = (i as usize) * ENTRY_OCTETS + k;
+    let at = usize::from(i) * ENTRY_OCTETS + k;
     if at < entries.len() {
         return entries[at];
     }
@@ -31,7 +31,7 @@ fn pair(entries: &[u8], i: u8, k: usize) -> u16
 fn sender_of(high: u16, low: u16) -> u32
     ensures { result ≡ high * 65536 + low }
 {
-    (high as u32) * 65536 + (low as u32)
+    u32::from(high) * 65536 + u32::from(low)
 }
 
 // What entry i says of its series: its slot, its rank by recency, its count of beats, its key and its total.
@@ -87,7 +87,7 @@ pub fn size_at(entries: &[u8], i: u8) -> u8
 pub fn part_at<'a>(entries: &'a [u8], i: u8) -> &'a [u8]
     ensures { result.now ≡ (log_entry_at entries.now i).octets }
 {
-    let from = (i as usize) * ENTRY_OCTETS + ENTRY_HEAD;
+    let from = usize::from(i) * ENTRY_OCTETS + ENTRY_HEAD;
     let room = octets::up_to(arrival::own_octets(entries, from), PART_OCTETS);
     octets::up_to(room, octets::wide(size_at(entries, i)))
 }

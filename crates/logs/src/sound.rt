@@ -1,6 +1,6 @@
 // The test of a log (02 [9]): "1 also for a log it could not have made". One function for each test of the rule, in its order.
 ghost use Rattle.std.specs.Prelude.{◌≡◌, ◌+◌, ◌-◌, ◌<◌};
-ghost use Rattle.arrival.specs.Keys.{key_formed, total_fits, length_fits};
+ghost use Rattle.arrival.specs.Keys.{length_fits};
 ghost use Rattle.slots.specs.Slots.{is_slot_number};
 ghost use Rattle.plain.specs.Entries.{log_entry_at, entries_from, state_in};
 ghost use Rattle.plain.specs.Log.{has_entry, is_part};
@@ -9,7 +9,8 @@ ghost use Rattle.plain.specs.Engine.{rank_fits, entry_formed, log_formed, state_
 
 use crate::entries::{beats_at, key_at, number_at, rank_at, size_at, slot_at, total_at};
 use crate::walks::{Sought, complete, find, has};
-use arrival::keys::{in_range, is_pageless, reference_fits, room};
+use arrival::keys::room;
+use formed::{key_formed, total_fits};
 use types::{Key, Kind, LOG_ENTRIES, LOG_OCTETS, Log, PAGE_CONTENT, SLOTS};
 
 // Whether a log can have that many slots.
@@ -20,30 +21,7 @@ pub fn is_slot_number(n: u8) -> bool
 }
 
 // ---- one entry
-// Whether a log of that kind can have the key: of pages without a width, else of messages.
-fn key_formed(kind: Kind, key: Key) -> bool
-    ensures { result ≡ key_formed kind key }
-{
-    let pageless = is_pageless(kind);
-    let inside = in_range(key.identifier);
-    let fits = reference_fits(key.width as u32, key.reference as u32);
-    if key.width == 0 {
-        return !pageless & (key.sender == 0) & (key.reference == 0) & inside;
-    }
-    fits & (key.serial.0 == 0) & (key.identifier.0 == 0)
-}
-
-// Whether its series can have the total.
-fn total_fits(key: Key, total: u8) -> bool
-    ensures { result ≡ total_fits key total }
-{
-    if key.width == 0 {
-        return (2 <= total) & (total <= 15);
-    }
-    (2 <= total) & (total <= 16)
-}
-
-// Whether its part of that number can have so many octets.
+// Whether a part of that number can have so many octets.
 fn length_fits(key: Key, number: u8, size: u8) -> bool
     ensures { result ≡ length_fits key number size }
 {
@@ -116,15 +94,7 @@ fn is_twice(entries: &[u8], count: u8, i: u8) -> bool
 {
     let slot = slot_at(entries, i);
     let number = number_at(entries, i);
-    let found = find(
-        entries,
-        i + 1,
-        count,
-        Sought::OfPart {
-            slot: slot,
-            number: number,
-        },
-    );
+    let found = find(entries, i + 1, count, Sought::OfPart { slot, number });
     found < count
 }
 
@@ -136,14 +106,12 @@ fn log_formed(entries: &[u8], count: u8, kind: Kind, n: u8) -> bool
     if !is_slot_number(n) {
         return false;
     }
-    let mut i = 0;
-    while i < count {
+    for i in 0..count {
         let formed = entry_formed(entries, count, i, kind, n);
         let twice = is_twice(entries, count, i);
         if !formed | twice {
             return false;
         }
-        i = i + 1;
     }
     true
 }
@@ -158,6 +126,5 @@ pub fn state_formed(log: Log, entries: &[u8]) -> bool
     if LOG_ENTRIES < log.count as usize {
         return false;
     }
-    let kind = log.kind;
-    log_formed(entries, log.count, kind, log.slots)
+    log_formed(entries, log.count, log.kind, log.slots)
 }

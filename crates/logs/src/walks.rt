@@ -1,13 +1,13 @@
 // Searches (02 [9]): "each search a walk from its start". One loop finds the first entry that is looked for; the others ask it once for each slot or
 // each number.
 ghost use Rattle.std.specs.Prelude.{◌≡◌, suc, ◌-◌, leb};
-ghost use Rattle.slots.specs.Slots.{same_key};
 ghost use Rattle.plain.specs.Entries.{log_entry_at, entries_from};
 ghost use Rattle.plain.specs.Log.{first_entry, has_entry, is_part, free_from, dead, log_dropped};
 ghost use Rattle.plain.specs.Engine.{agrees, contends, against};
 ghost use Rattle.logs.specs.Places.{seek, found_at, free_at, all_in_log};
 
 use crate::entries::{beats_at, key_at, number_at, rank_at, slot_at, total_at};
+use slots::find::same_key;
 use types::Key;
 
 // What is looked for: a series by its key, by its slot or by its rank, a part, whatever cannot be in one log with entry i, and a series that a beat with
@@ -23,16 +23,6 @@ pub enum Sought {
 }
 
 // ---- one entry
-fn same_key(a: Key, b: Key) -> bool
-    ensures { result ≡ same_key a b }
-{
-    (a.sender == b.sender)
-        & (a.width == b.width)
-        & (a.reference == b.reference)
-        & (a.serial.0 == b.serial.0)
-        & (a.identifier.0 == b.identifier.0)
-}
-
 // Whether entries i and j of one slot agree in what they say of its series.
 fn agrees(entries: &[u8], i: u8, j: u8) -> bool
     ensures { result ≡ agrees (log_entry_at entries.now i) (log_entry_at entries.now j) }
@@ -104,14 +94,12 @@ fn passes(entries: &[u8], j: u8, sought: Sought) -> bool
 pub fn find(entries: &[u8], from: u8, count: u8, sought: Sought) -> u8
     ensures { found_at entries.now count result ≡ first_entry (seek entries.now sought) (entries_from entries.now from (count - from)) }
 {
-    let mut i = from;
-    while i < count {
+    for i in from..count {
         if passes(entries, i, sought) {
             return i;
         }
-        i = i + 1;
     }
-    i
+    count
 }
 
 // Whether the log has an entry that is looked for.
@@ -126,19 +114,10 @@ pub fn complete(entries: &[u8], count: u8, slot: u8, total: u8, number: u8) -> b
     ensures { result ≡ all_in_log slot number (entries_from entries.now 0 count) total }
 {
     let mut ok = true;
-    let mut k = 0;
-    while k < total {
+    for k in 0..total {
         let next = k + 1;
-        let held = has(
-            entries,
-            count,
-            Sought::OfPart {
-                slot: slot,
-                number: next,
-            },
-        );
-        ok = ok & ((next == number) | held);
-        k = next;
+        let held = has(entries, count, Sought::OfPart { slot, number: next });
+        ok &= (next == number) | held;
     }
     ok
 }
@@ -147,14 +126,12 @@ pub fn complete(entries: &[u8], count: u8, slot: u8, total: u8, number: u8) -> b
 pub fn free_slot(entries: &[u8], count: u8, n: u8) -> u8
     ensures { free_at n result ≡ free_from (entries_from entries.now 0 count) 0 n }
 {
-    let mut i = 0;
-    while i < n {
+    for i in 0..n {
         if !has(entries, count, Sought::OfSlot(i)) {
             return i;
         }
-        i = i + 1;
     }
-    i
+    n
 }
 
 // Of how many of the n slots a beat with that limit drops the series.
@@ -162,18 +139,8 @@ pub fn dead_count(entries: &[u8], count: u8, n: u8, limit: u8) -> u8
     ensures { result ≡ log_dropped n limit (entries_from entries.now 0 count) }
 {
     let mut dropped = 0;
-    let mut i = 0;
-    while i < n {
-        let gone = has(
-            entries,
-            count,
-            Sought::Dead {
-                slot: i,
-                limit: limit,
-            },
-        );
-        dropped = dropped + (gone as u8);
-        i = i + 1;
+    for i in 0..n {
+        dropped += u8::from(has(entries, count, Sought::Dead { slot: i, limit }));
     }
     dropped
 }

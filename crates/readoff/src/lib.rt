@@ -16,15 +16,7 @@ use types::{Log, PARTS, Record, SLOTS, Slot};
 fn size_of(entries: &[u8], count: u8, slot: u8, number: u8) -> u8
     ensures { result ≡ entry_size (first_entry (is_part slot number) (entries_from entries.now 0 count)) }
 {
-    let i = find(
-        entries,
-        0,
-        count,
-        Sought::OfPart {
-            slot: slot,
-            number: number,
-        },
-    );
+    let i = find(entries, 0, count, Sought::OfPart { slot, number });
     if i < count {
         return size_at(entries, i);
     }
@@ -36,19 +28,10 @@ fn with_parts(entries: &[u8], count: u8, slot: u8, x: Slot) -> Slot
     ensures { result ≡ with_parts (entries_from entries.now 0 count) slot x }
 {
     let mut y = x;
-    let mut j = 0;
-    while j < PARTS {
+    for j in 0..PARTS {
         let number = (j as u8) + 1;
         y.lengths[j] = size_of(entries, count, slot, number);
-        y.held[j] = has(
-            entries,
-            count,
-            Sought::OfPart {
-                slot: slot,
-                number: number,
-            },
-        );
-        j = j + 1;
+        y.held[j] = has(entries, count, Sought::OfPart { slot, number });
     }
     y
 }
@@ -74,15 +57,12 @@ pub fn log_record(log: Log, entries: &[u8]) -> Record
 {
     let x = free_slot();
     let mut slots = [x; SLOTS];
-    let mut i = 0;
-    while i < SLOTS {
+    for i in 0..SLOTS {
         slots[i] = slot_read(entries, log.count, i as u8);
-        i = i + 1;
     }
-    let kind = log.kind;
     Record {
-        kind: kind,
+        kind: log.kind,
         count: log.slots,
-        slots: slots,
+        slots,
     }
 }

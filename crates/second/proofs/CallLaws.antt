@@ -1,4 +1,7 @@
 -- What the proofs of the calls search: one law for each return, over plain variables.
+use Rattle.std.specs.declared.result.Result.{Result}
+use Rattle.std.specs.declared.result.Result.TheVariants.{Ok, Err}
+use Rattle.types.specs.declared.Refusal.{Refusal}
 use Prim.Native.Nat.{ℕ}
 use mathlib.Core.Path.{◌≡◌, sym, ap}
 use mathlib.Core.Bool.{Bool, true, false, not, ◌||◌}
@@ -41,7 +44,7 @@ module _ (l : Log) (lent : List ℕ) (b : Bool) (told : b ≡ state_formed (stat
     pub fit_sound : not b || not (eqb (length output) most_octets) ≡ false → SoundLog l.slots l.kind lent l.count
     fit_sound fit = formed_sound l lent b told (so b (neither (not b) (not (eqb (length output) most_octets)) fit).0)
 
-    module _ (paged : Bool) (o : List ℕ) (z : Arrival) where
+    module _ (paged : Bool) (o : List ℕ) (z : Result Arrival Refusal) where
       pub call_unfit : not b || not (eqb (length output) most_octets) ≡ true
           → after_log (refused_by 1) (state_in l lent) output ≡ taken_if_fit (state_in l lent) output paged o (told_arrival z)
       call_unfit e = rw (← told, e)
@@ -52,11 +55,11 @@ module _ (l : Log) (lent : List ℕ) (b : Bool) (told : b ≡ state_formed (stat
       call_done a c new out fit n h = rw (n, ← told, fit) (ap (leaves (state_in l lent)) h)
 
 -- what the octets of the log come to
-pub reads_stay : (z : Arrival) (o : Outcome Brought) (a : Answer) (old new : List ℕ) → told_arrival z ≡ o → Stays (only_reads (told_arrival z) a) old new
+pub reads_stay : (z : Result Arrival Refusal) (o : Outcome Brought) (a : Answer) (old new : List ℕ) → told_arrival z ≡ o → Stays (only_reads (told_arrival z) a) old new
     → only_reads o a ≡ true → new ≡ old
 reads_stay z o a old new e s t = s.same (rw e t)
 
-module _ (l : Log) (lent output : List ℕ) (z : Arrival) (x : AfterLog) where
+module _ (l : Log) (lent output : List ℕ) (z : Result Arrival Refusal) (x : AfterLog) where
   pub message_called : (sender : ℕ) (ud : List ℕ) → told_arrival z ≡ read_message l.kind sender ud
       → x ≡ taken_if_fit (state_in l lent) output false ud (told_arrival z) → x ≡ log_take_message (state_in l lent) output sender ud
   unfolding log_take_message
@@ -68,15 +71,15 @@ module _ (l : Log) (lent output : List ℕ) (z : Arrival) (x : AfterLog) where
   page_called page e h = rw (← e) h
 
 -- what reading gives fits
-pub message_fits : (k : Kind) (sender : ℕ) (ud : List ℕ) (z : Arrival) → told_arrival z ≡ read_message k sender ud → ((i : ℕ) → Fits w8 (get_or ud i 0)) → Fitting k ud z
-message_fits k sender ud (arrival.Single start) e b = omega (arith, message_single k sender ud start (sym e))
-message_fits k sender ud (arrival.Part key total number start) e b = message_part k sender ud key total number start (sym e) (λ i. omega (arith, b i))
-message_fits k sender ud (arrival.Refused q) e b = tt
+pub message_fits : (k : Kind) (sender : ℕ) (ud : List ℕ) (z : Result Arrival Refusal) → told_arrival z ≡ read_message k sender ud → ((i : ℕ) → Fits w8 (get_or ud i 0)) → Fitting k ud z
+message_fits k sender ud (Ok (arrival.Single start)) e b = omega (arith, message_single k sender ud start (sym e))
+message_fits k sender ud (Ok (arrival.Part key total number start)) e b = message_part k sender ud key total number start (sym e) (λ i. omega (arith, b i))
+message_fits k sender ud (Err q) e b = tt
 
-pub page_fits : (k : Kind) (page : List ℕ) (z : Arrival) → told_arrival z ≡ read_page k page → Fitting k page z
-page_fits k page (arrival.Single start) e = omega (arith, page_single k page start (sym e))
-page_fits k page (arrival.Part key total number start) e = page_part k page key total number start (sym e)
-page_fits k page (arrival.Refused q) e = tt
+pub page_fits : (k : Kind) (page : List ℕ) (z : Result Arrival Refusal) → told_arrival z ≡ read_page k page → Fitting k page z
+page_fits k page (Ok (arrival.Single start)) e = omega (arith, page_single k page start (sym e))
+page_fits k page (Ok (arrival.Part key total number start)) e = page_part k page key total number start (sym e)
+page_fits k page (Err q) e = tt
 
 pub ruleset call_steps = (
   rules,

@@ -1,4 +1,6 @@
 -- What the proofs of `packets` search: one law for each return, call and turn of the loop, over plain variables.
+use Rattle.std.specs.declared.option.Option as option
+use Rattle.std.specs.declared.option.Option.TheVariants.{Some}
 use Prim.Native.Nat.{ℕ, zero, suc, ◌+◌, ◌-◌, ◌≤◌, ◌<◌}
 use mathlib.Core.Path.{◌≡◌, refl, sym, ap, ◌∙◌}
 use mathlib.Core.Bool.{Bool}
@@ -16,8 +18,6 @@ use Rattle.octets.specs.Joined.{joined}
 use Rattle.types.specs.declared.Kind.{Kind}
 use Rattle.packet.specs.Packets.{most_octets}
 use Rattle.joined.specs.declared.Front.{Front}
-use Rattle.joined.specs.declared.Size.{Size}
-use Rattle.joined.specs.declared.Size.TheVariants as size
 use Rattle.joined.specs.Fronts.{packet_in, front_of, size_by, told_size, length_in, output_with}
 use Rattle.joined.specs.Laws.{none_told, none_kept, packet_inside, packet_told, packet_written}
 use Rattle.plain.specs.Entries.{Entry, log_entry_at, entries_from}
@@ -96,8 +96,8 @@ module _ (log : List Entry) (slot total number : ℕ) (part old : List ℕ) wher
     join_ends l = w.is ∙ ap (λ (n : ℕ). placed old 0 (joined piece n)) (end l)
 
 -- ---- handing out
-module _ (k : Kind) (paged : Bool) (t : ℕ) (o : List ℕ) (f : Front) (z : Size) (front : f ≡ front_of o) (told : told_size z ≡ size_by k paged t f) (n : ℕ)
-    (e : z ≡ size.Octets n) where
+module _ (k : Kind) (paged : Bool) (t : ℕ) (o : List ℕ) (f : Front) (z : option.Option ℕ) (front : f ≡ front_of o) (told : told_size z ≡ size_by k paged t f) (n : ℕ)
+    (e : z ≡ Some n) where
   pub packet_put : (d q x : List ℕ) → length o ≤ length d → q ≡ take n o → x ≡ after_put d 0 q → x ≡ output_with (packet_in k paged t o) d
   packet_put d q x l is h =
       let i : n ≤ length o = packet_inside k paged t o f z front told n e in

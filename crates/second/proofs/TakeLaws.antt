@@ -1,4 +1,8 @@
 -- What the proofs of taking search: one law for each return, over plain variables. Each puts the tests that led there into the rule.
+use Rattle.std.specs.declared.result.Result as result
+use Rattle.std.specs.declared.option.Option as option
+use Rattle.std.specs.declared.result.Result.TheVariants.{Ok, Err}
+use Rattle.std.specs.declared.option.Option.TheVariants.{Some, None}
 use Prim.Native.Nat.{ℕ, ◌-◌, ◌≤◌, ◌<◌}
 use mathlib.Core.Path.{◌≡◌, refl, ap, ◌∙◌}
 use mathlib.Core.Bool.{Bool, true, false, cond}
@@ -20,8 +24,6 @@ use Rattle.packet.specs.Packets.{most_octets}
 use Rattle.arrival.specs.Arrivals.{told_arrival}
 use Rattle.arrival.specs.Laws.{Admitted}
 use Rattle.arrival.specs.Keys.{of_pages}
-use Rattle.joined.specs.declared.Size.{Size}
-use Rattle.joined.specs.declared.Size.TheVariants as size
 use Rattle.joined.specs.Fronts.{packet_in, told_size, length_in, output_with}
 use Rattle.series.specs.Taking.{Answer, kept, held_already, packet, refused_by}
 use Rattle.series.specs.Deciding.{answer_of, Fitting}
@@ -68,10 +70,10 @@ module _ (lent : List ℕ) (i slot : ℕ) (part p : List ℕ) (b : Bool) (q : p 
     again_left e = rw (← told, e)
 
 -- ---- a series that is complete
-pub handed_some : (z : Size) (n : ℕ) → z ≡ size.Octets n → packet n ≡ answer_of (told_size z)
+pub handed_some : (z : option.Option ℕ) (n : ℕ) → z ≡ Some n → packet n ≡ answer_of (told_size z)
 handed_some z n e = rw e
 
-pub handed_none : (z : Size) → z ≡ size.None → refused_by 9 ≡ answer_of (told_size z)
+pub handed_none : (z : option.Option ℕ) → z ≡ None → refused_by 9 ≡ answer_of (told_size z)
 handed_none z e = rw e
 
 pub handed_drops : (a : Answer) (z : Option ℕ) → a ≡ answer_of z → alters_nothing a ≡ false
@@ -167,33 +169,33 @@ module _ (n : ℕ) (k : Kind) (lent : List ℕ) (m : ℕ) (output : List ℕ) (k
   part_new h e = rw (found_none (has_key key) lent m i found h) (e.is k output)
 
 -- ---- an arrival
-module _ (n : ℕ) (k : Kind) (lent : List ℕ) (m : ℕ) (output : List ℕ) (paged : Bool) (o : List ℕ) (z : Arrival) where
-  pub brought_refused : (q : Refusal) → z ≡ arrival.Refused q
+module _ (n : ℕ) (k : Kind) (lent : List ℕ) (m : ℕ) (output : List ℕ) (paged : Bool) (o : List ℕ) (z : result.Result Arrival Refusal) where
+  pub brought_refused : (q : Refusal) → z ≡ Err q
       → result_of (refused_by (refusal_number q)) (entries_from lent 0 m) output ≡ log_taken n k (entries_from lent 0 m) output paged o (told_arrival z)
   brought_refused q e = rw e
 
-  pub brought_single : (a : Answer) (s : Option ℕ) (start : ℕ) (own out : List ℕ) → z ≡ arrival.Single start → own ≡ drop start o → a ≡ answer_of s
+  pub brought_single : (a : Answer) (s : Option ℕ) (start : ℕ) (own out : List ℕ) (q : Arrival) → z ≡ Ok q → q ≡ arrival.Single start → own ≡ drop start o → a ≡ answer_of s
       → s ≡ length_in (packet_in k paged 1 own) → out ≡ output_with (packet_in k paged 1 own) output
       → result_of a (entries_from lent 0 m) out ≡ log_taken n k (entries_from lent 0 m) output paged o (told_arrival z)
-  brought_single a s start own out e is f g h =
-      rw (e, ← is) (handed_out a s (packet_in k paged 1 own) (entries_from lent 0 m) (entries_from lent 0 m) out output f g h refl)
+  brought_single a s start own out q e d is f g h =
+      rw (e, d, ← is) (handed_out a s (packet_in k paged 1 own) (entries_from lent 0 m) (entries_from lent 0 m) out output f g h refl)
 
-  pub brought_part : (x : Result) (key : Key) (total number start : ℕ) (own : List ℕ) → z ≡ arrival.Part key total number start → own ≡ drop start o
+  pub brought_part : (x : Result) (key : Key) (total number start : ℕ) (own : List ℕ) (q : Arrival) → z ≡ Ok q → q ≡ arrival.Part key total number start → own ≡ drop start o
       → x ≡ log_take_part n k (entries_from lent 0 m) output key total number own → x ≡ log_taken n k (entries_from lent 0 m) output paged o (told_arrival z)
-  brought_part x key total number start own e is h = rw (e, ← is) h
+  brought_part x key total number start own q e d is h = rw (e, d, ← is) h
 
   module _ (fits : Fitting k o z) (wide : length output ≡ most_octets) where
-    pub single_fits : (start : ℕ) (own : List ℕ) → z ≡ arrival.Single start → own ≡ drop start o → length own ≤ length output
-    single_fits start own e is = let h : length (drop start o) ≤ most_octets = rw e at fits in omega (arith, ap length is)
+    pub single_fits : (start : ℕ) (own : List ℕ) (q : Arrival) → z ≡ Ok q → q ≡ arrival.Single start → own ≡ drop start o → length own ≤ length output
+    single_fits start own q e d is = let h : length (drop start o) ≤ most_octets = rw (e, d) at fits in omega (arith, ap length is)
 
-    pub part_ready : (key : Key) (total number start : ℕ) (own : List ℕ) → z ≡ arrival.Part key total number start → own ≡ drop start o → SoundLog n k lent m
+    pub part_ready : (key : Key) (total number start : ℕ) (own : List ℕ) (q : Arrival) → z ≡ Ok q → q ≡ arrival.Part key total number start → own ≡ drop start o → SoundLog n k lent m
         → ReadyLog n k lent m key total number own output
-    part_ready key total number start own e is s =
-        record { sound = s; admitted = let h : Admitted k key total number (drop start o) = rw e at fits in rw is h; wide = wide }
+    part_ready key total number start own q e d is s =
+        record { sound = s; admitted = let h : Admitted k key total number (drop start o) = rw (e, d) at fits in rw is h; wide = wide }
 
-pub part_stays : (z : Arrival) (key : Key) (total number start : ℕ) (a : Answer) (old new : List ℕ) → z ≡ arrival.Part key total number start
+pub part_stays : (z : result.Result Arrival Refusal) (key : Key) (total number start : ℕ) (a : Answer) (old new : List ℕ) (q : Arrival) → z ≡ Ok q → q ≡ arrival.Part key total number start
     → Stays (alters_nothing a) old new → Stays (only_reads (told_arrival z) a) old new
-part_stays z key total number start a old new e s = rw e s
+part_stays z key total number start a old new q e d s = rw (e, d) s
 
 -- what the proofs of a part that is held, of a complete series, of a series that is there, of a new one and of a part search
 pub ruleset again_steps = (

@@ -16,7 +16,7 @@ ghost use Rattle.plain.specs.Engine.{after_log};
 ghost use Rattle.second.specs.Acting.{Stays, taken_if_fit, only_reads};
 
 use logs::sound::state_formed;
-use types::{Answer, Arrival, Log, LogTaken, PACKET_OCTETS, Refusal};
+use types::{Arrival, Log, LogTaken, PACKET_OCTETS, Refusal};
 
 // ---- taking
 // Takes what reading the octets of a message or a page gave, if the log and the buffers are as they must be.
@@ -24,7 +24,7 @@ fn take_arrival(
     log: Log,
     paged: bool,
     octets: &[u8],
-    arrival: Arrival,
+    arrival: Result<Arrival, Refusal>,
     entries: &mut [u8],
     output: &mut [u8],
 ) -> LogTaken
@@ -35,8 +35,8 @@ fn take_arrival(
     let formed = state_formed(log, entries);
     if !formed | (output.len() != PACKET_OCTETS) {
         return LogTaken {
-            answer: Answer::Refused(Refusal::BufferOrRecord),
-            log: log,
+            answer: Err(Refusal::BufferOrRecord),
+            log,
         };
     }
     let kind = log.kind;
@@ -44,9 +44,9 @@ fn take_arrival(
     let done = take::take_brought(n, kind, entries, log.count, paged, octets, arrival, output);
     let answer = done.answer;
     LogTaken {
-        answer: answer,
+        answer,
         log: Log {
-            kind: kind,
+            kind,
             slots: n,
             count: done.count,
         },

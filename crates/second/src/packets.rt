@@ -7,7 +7,6 @@ ghost use Rattle.joined.specs.Fronts.{packet_in, told_size, length_in, output_wi
 ghost use Rattle.plain.specs.Entries.{entries_from};
 ghost use Rattle.second.specs.Acting.{log_piece, whole_of};
 
-use joined::Size;
 use logs::entries::part_at;
 use logs::walks::{Sought, find};
 use types::Kind;
@@ -19,15 +18,7 @@ fn piece<'a>(entries: &'a [u8], count: u8, slot: u8, number: u8, part: &'a [u8],
     if k == number {
         return part;
     }
-    let i = find(
-        entries,
-        0,
-        count,
-        Sought::OfPart {
-            slot: slot,
-            number: k,
-        },
-    );
+    let i = find(entries, 0, count, Sought::OfPart { slot, number: k });
     if i < count {
         return part_at(entries, i);
     }
@@ -59,29 +50,28 @@ fn join<'a>(
     ensures out_after { out.new ≡ placed out.old 0 (whole_of (entries_from entries.now 0 count) slot total number part.now) }
 {
     let mut at = 0;
-    let mut k = 0;
-    while k < total {
-        k = k + 1;
-        at = put_behind(piece(entries, count, slot, number, part, k), out, at);
+    for k in 0..total {
+        at = put_behind(piece(entries, count, slot, number, part, k + 1), out, at);
     }
     at
 }
 
 // Hands out the packet in octets of `total` messages or pages: it is at the start of the output, whose rest stays. If there is none, all of it stays.
-pub(crate) fn hand_out(kind: Kind, paged: bool, total: u8, whole: &[u8], output: &mut [u8]) -> Size
+pub(crate) fn hand_out(
+    kind: Kind,
+    paged: bool,
+    total: u8,
+    whole: &[u8],
+    output: &mut [u8],
+) -> Option<usize>
     requires { length whole.now ≤ length output.old }
     ensures result_value { told_size result ≡ length_in (packet_in kind paged total whole.now) }
     ensures output_after { output.new ≡ output_with (packet_in kind paged total whole.now) output.old }
 {
     let front = joined::front_of(whole);
-    let size = joined::packet_size(kind, paged, total, front);
-    match size {
-        Size::Octets(n) => {
-            octets::put(octets::up_to(whole, n), output, 0);
-            Size::Octets(n)
-        }
-        Size::None => Size::None,
-    }
+    let size = joined::packet_size(kind, paged, total, front)?;
+    octets::put(octets::up_to(whole, size), output, 0);
+    Some(size)
 }
 
 // The same of the parts of a slot, with the one that arrives.
@@ -95,7 +85,7 @@ pub(crate) fn hand_out_series<'a>(
     number: u8,
     part: &'a [u8],
     output: &mut [u8],
-) -> Size
+) -> Option<usize>
     requires part_len_bound { length (whole_of (entries_from entries.now 0 count) slot total number part.now) ≤ most_octets }
     requires output_len { length output.old ≡ most_octets }
     ensures result_value { told_size result ≡ length_in (packet_in kind paged total (whole_of (entries_from entries.now 0 count) slot total number part.now)) }

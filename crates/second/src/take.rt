@@ -16,15 +16,15 @@ ghost use Rattle.second.specs.Acting.{ReadyLog, Stays, only_reads, whole_of, lac
 
 use crate::packets::{hand_out, hand_out_series};
 use copies::{drop_series, keep_part, open_series, touch_series};
-use joined::Size;
 use logs::entries::{part_at, rank_at, slot_at, total_at};
 use logs::walks::{Sought, complete, find, free_slot};
+use series::take::handed;
 use types::{Answer, Arrival, Key, Kind, Refusal};
 
 // What taking a part comes to: the answer, and how many entries there are afterwards.
 #[derive(Clone, Copy)]
 pub(crate) struct Done {
-    pub answer: Answer,
+    pub answer: Result<Answer, Refusal>,
     pub count: u8,
 }
 
@@ -40,25 +40,15 @@ fn take_again(entries: &mut [u8], count: u8, slot: u8, rank: u8, i: u8, part: &[
     if same {
         let more = touch_series(entries, count, slot, rank);
         return Done {
-            answer: Answer::HeldAlready {
-                slot: slot as usize,
-            },
+            answer: Ok(Answer::HeldAlready {
+                slot: usize::from(slot),
+            }),
             count: more,
         };
     }
     Done {
-        answer: Answer::Refused(Refusal::OtherOctets),
-        count: count,
-    }
-}
-
-// What is answered if a packet of that length was handed out, and if there was none.
-pub(crate) fn handed(size: Size) -> Answer
-    ensures { told_answer result ≡ answer_of (told_size size) }
-{
-    match size {
-        Size::Octets(n) => Answer::Packet { length: n },
-        Size::None => Answer::Refused(Refusal::MalformedPacket),
+        answer: Err(Refusal::OtherOctets),
+        count,
     }
 }
 
@@ -117,10 +107,10 @@ fn take_missing(
     }
     let more = keep_part(entries, count, slot, rank, key, total, number, part);
     Done {
-        answer: Answer::Kept {
-            slot: slot as usize,
+        answer: Ok(Answer::Kept {
+            slot: usize::from(slot),
             displaced: false,
-        },
+        }),
         count: more,
     }
 }
@@ -147,19 +137,11 @@ fn take_more(
     let noted = total_at(entries, i);
     if noted != total {
         return Done {
-            answer: Answer::Refused(Refusal::OtherTotal),
-            count: count,
+            answer: Err(Refusal::OtherTotal),
+            count,
         };
     }
-    let j = find(
-        entries,
-        0,
-        count,
-        Sought::OfPart {
-            slot: slot,
-            number: number,
-        },
-    );
+    let j = find(entries, 0, count, Sought::OfPart { slot, number });
     if j < count {
         return take_again(entries, count, slot, rank, j, part);
     }
@@ -197,10 +179,10 @@ fn take_new(
     if free < n {
         let more = open_series(entries, count, free, 0, key, total, number, part);
         return Done {
-            answer: Answer::Kept {
-                slot: free as usize,
+            answer: Ok(Answer::Kept {
+                slot: usize::from(free),
                 displaced: false,
-            },
+            }),
             count: more,
         };
     }
@@ -208,10 +190,10 @@ fn take_new(
     let slot = slot_or_first(entries, count, last);
     let more = open_series(entries, count, slot, n, key, total, number, part);
     Done {
-        answer: Answer::Kept {
-            slot: slot as usize,
+        answer: Ok(Answer::Kept {
+            slot: usize::from(slot),
             displaced: true,
-        },
+        }),
         count: more,
     }
 }
@@ -248,7 +230,7 @@ pub(crate) fn take_brought(
     count: u8,
     paged: bool,
     octets: &[u8],
-    arrival: Arrival,
+    arrival: Result<Arrival, Refusal>,
     output: &mut [u8],
 ) -> Done
     requires sound_log { SoundLog n kind entries.old count }
@@ -257,20 +239,23 @@ pub(crate) fn take_brought(
     ensures output_after { result_of (told_answer result.answer) (entries_from entries.new 0 result.count) output.new ≡ log_taken n kind (entries_from entries.old 0 count) output.old paged octets.now (told_arrival arrival) }
     ensures fact { Stays (only_reads (told_arrival arrival) (told_answer result.answer)) entries.old entries.new }
 {
-    match arrival {
-        Arrival::Refused(why) => {
+    let brought = match arrival {
+        Err(why) => {
             return Done {
-                answer: Answer::Refused(why),
-                count: count,
+                answer: Err(why),
+                count,
             };
         }
+        Ok(brought) => brought,
+    };
+    match brought {
         Arrival::Single { start } => {
             let part = arrival::own_octets(octets, start);
             let size = hand_out(kind, paged, 1, part, output);
-            return Done {
+            Done {
                 answer: handed(size),
-                count: count,
-            };
+                count,
+            }
         }
         Arrival::Part {
             key,
@@ -279,7 +264,7 @@ pub(crate) fn take_brought(
             start,
         } => {
             let part = arrival::own_octets(octets, start);
-            return take_part(n, kind, entries, count, key, total, number, part, output);
+            take_part(n, kind, entries, count, key, total, number, part, output)
         }
     }
 }

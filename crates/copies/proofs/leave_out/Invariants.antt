@@ -1,10 +1,6 @@
 -- `leave_out` meets its contract. The entries before i are copied unless they go; those from i on are as they were. Assumes nothing.
 use Rattle.copies.proofs.CopyLaws.{Leaves}
-use Prim.Native.Nat.{◌-◌}
 use Rattle.copies.proofs.leave_out.Given as goal
 
 abbrev pub invariant-loop-i : goal.invariant-loop-i
 invariant-loop-i l = Leaves l.gone l.initial.entries l.entries l.count l.i l.to
-
-abbrev pub decreases-loop-i : goal.decreases-loop-i
-decreases-loop-i l = l.count - l.i

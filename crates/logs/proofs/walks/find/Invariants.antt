@@ -1,11 +1,7 @@
 -- `find` meets its contract. What is found from i on is what is found from the start on, entry by entry. Assumes nothing.
 use Rattle.logs.proofs.WalkLaws.{Walks}
 use Rattle.logs.specs.Places.{seek}
-use Prim.Native.Nat.{◌-◌}
 use Rattle.logs.proofs.walks.find.Given as goal
 
 abbrev pub invariant-loop-i : goal.invariant-loop-i
 invariant-loop-i l = Walks (seek l.entries l.sought) l.entries l.from l.count l.i
-
-abbrev pub decreases-loop-i : goal.decreases-loop-i
-decreases-loop-i l = l.count - l.i

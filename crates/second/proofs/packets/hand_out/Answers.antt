@@ -2,14 +2,14 @@
 use Rattle.second.proofs.PacketLaws.{packet_steps}
 use Rattle.second.proofs.packets.hand_out.Goals as goal
 
-pub returns-in-Octets-clause-result_value : goal.returns-in-Octets-clause-result_value
-returns-in-Octets-clause-result_value c = search packet_steps
+pub returns-clause-result_value : goal.returns-clause-result_value
+returns-clause-result_value c = search (packet_steps, c.in_ok-size.was)
 
-pub returns-in-Octets-clause-output_after : goal.returns-in-Octets-clause-output_after
-returns-in-Octets-clause-output_after c = search packet_steps
+pub returns-clause-output_after : goal.returns-clause-output_after
+returns-clause-output_after c = search (packet_steps, c.in_ok-size.was)
 
-pub returns-in-None-clause-result_value : goal.returns-in-None-clause-result_value
-returns-in-None-clause-result_value c = search packet_steps
+pub returns-in_err-size-clause-result_value : goal.returns-in_err-size-clause-result_value
+returns-in_err-size-clause-result_value c = search (packet_steps, c.in_err-size.was)
 
-pub returns-in-None-clause-output_after : goal.returns-in-None-clause-output_after
-returns-in-None-clause-output_after c = search packet_steps
+pub returns-in_err-size-clause-output_after : goal.returns-in_err-size-clause-output_after
+returns-in_err-size-clause-output_after c = search (packet_steps, c.in_err-size.was)
