@@ -25,19 +25,19 @@ pub extern "C" fn skm_next_skipped(file: &[u8], from: usize, run: &mut [usize; 3
     0
 }
 
-fn captured(c: Captured, found: &mut [usize; 2]) -> u32
+fn captured(c: Option<Captured>, found: &mut [usize; 2]) -> u32
     ensures { (result, found.new) ≡ heard_captured c }
 {
     match c {
-        Captured::UserData { start } => {
+        Some(Captured::UserData { start }) => {
             *found = [1, start];
             0
         }
-        Captured::Page { start } => {
+        Some(Captured::Page { start }) => {
             *found = [2, start];
             0
         }
-        Captured::Unsound => {
+        None => {
             *found = [0, 0];
             0
         }

@@ -4,48 +4,48 @@ ghost use Rattle.report.specs.Reporting.{told_outgoing, told_announcing, write_r
 ghost use Rattle.heard.specs.Heard.{heard_going, heard_report, heard_announcing};
 
 use heard::hear;
-use types::{Announcing, Outgoing, Spi};
+use types::{Outgoing, Refusal, Spi};
 
-fn outgoing(o: Outgoing, outgoing: &mut [usize; 2]) -> u32
+fn outgoing(o: Result<Outgoing, Refusal>, outgoing: &mut [usize; 2]) -> u32
     ensures { (result, outgoing.new) ≡ heard_going (told_outgoing o) }
 {
     match o {
-        Outgoing::Nothing => {
+        Ok(Outgoing::Nothing) => {
             *outgoing = [1, 0];
             0
         }
-        Outgoing::Report { length } => {
+        Ok(Outgoing::Report { length }) => {
             *outgoing = [2, length];
             0
         }
-        Outgoing::Announcement { length } => {
+        Ok(Outgoing::Announcement { length }) => {
             *outgoing = [3, length];
             0
         }
-        Outgoing::Submit => {
+        Ok(Outgoing::Submit) => {
             *outgoing = [4, 0];
             0
         }
-        Outgoing::Refused(why) => {
+        Err(why) => {
             *outgoing = [0, 0];
             hear::refusal(why)
         }
     }
 }
 
-fn announcing(a: Announcing, announces: &mut usize) -> u32
+fn announcing(a: Result<bool, Refusal>, announces: &mut usize) -> u32
     ensures { (result, announces.new) ≡ heard_announcing (told_announcing a) }
 {
     match a {
-        Announcing::Yes => {
+        Ok(true) => {
             *announces = 1;
             0
         }
-        Announcing::No => {
+        Ok(false) => {
             *announces = 0;
             0
         }
-        Announcing::Refused(why) => {
+        Err(why) => {
             *announces = 0;
             hear::refusal(why)
         }

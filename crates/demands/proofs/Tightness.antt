@@ -1,4 +1,10 @@
 -- Each promise is tight: the outcome can be read back from what is told of it.
+use Rattle.types.specs.declared.Command as parsed_command
+use Rattle.types.specs.declared.Response as parsed_response
+use Rattle.std.specs.declared.result.Result.{Result}
+use Rattle.std.specs.declared.option.Option as option
+use Rattle.std.specs.declared.result.Result.TheVariants.{Ok, Err}
+use Rattle.std.specs.declared.option.Option.TheVariants.{Some, None}
 use Prim.Native.Nat.{ℕ, ◌+◌}
 use mathlib.Core.Path.{◌≡◌, refl, sym, ap, ◌∙◌}
 use mathlib.Core.Bool.{Bool, true, false, cond, ◌&&◌}
@@ -19,59 +25,38 @@ use Rattle.types.specs.declared.CommandBody.{CommandBody}
 use Rattle.types.specs.declared.CommandBody.TheVariants as command
 use Rattle.types.specs.declared.ResponseBody.{ResponseBody}
 use Rattle.types.specs.declared.ResponseBody.TheVariants as response
-use Rattle.types.specs.declared.ParsedCommand.{ParsedCommand}
-use Rattle.types.specs.declared.ParsedCommand.TheVariants as parsed_command
-use Rattle.types.specs.declared.ParsedResponse.{ParsedResponse}
-use Rattle.types.specs.declared.ParsedResponse.TheVariants as parsed_response
-use Rattle.types.specs.declared.Written.{Written}
-use Rattle.types.specs.declared.Written.TheVariants as written
 use Rattle.types.specs.Refusals.{Outcome, refused, gives, Lent, refusal_number}
 use Rattle.packet.specs.Packets.{Parsed, plain_parsed, ciphered_parsed, well_formed, ciphered_command, shown_data, shown_check, shown_opaque}
-use Rattle.packet.specs.declared.read.Judged.{Judged}
-use Rattle.packet.specs.declared.read.Judged.TheVariants as judged
 use Rattle.packet.specs.Told.{told_command, told_response}
 use Rattle.packet.specs.Judging.{told_judged}
 use Rattle.header.specs.declared.Seen.{Seen}
-use Rattle.header.specs.declared.Walked.{Walked}
-use Rattle.header.specs.declared.Walked.TheVariants as walked
 use Rattle.header.specs.Reading.{told_walked}
 use Rattle.types.specs.declared.Arrival.{Arrival}
 use Rattle.types.specs.declared.Arrival.TheVariants as arrival
 use Rattle.arrival.specs.Arrivals.{Brought, single, part, told_arrival}
-use Rattle.joined.specs.declared.Size as joined
 use Rattle.joined.specs.Fronts.{told_size}
 use Rattle.slots.specs.Slots.{default_slots, fresh_record, Beside, told_making}
 use Rattle.formed.specs.Formed.{record_formed}
 use Rattle.types.specs.declared.Answer.{Answer}
 use Rattle.types.specs.declared.Answer.TheVariants as answer
-use Rattle.types.specs.declared.Making.{Making}
-use Rattle.types.specs.declared.Making.TheVariants as making
 use Rattle.types.specs.declared.Made.{Made}
 use Rattle.types.specs.declared.Taken.{Taken}
-use Rattle.types.specs.declared.Beating as beating
 use Rattle.types.specs.declared.Beaten.{Beaten}
 use Rattle.beats.specs.Beats.{AfterBeat, told_beating}
 use Rattle.series.specs.Taking as taking
 use Rattle.layout.specs.Layout as layout
 use Rattle.card.specs.Card as card
-use Rattle.types.specs.declared.Judgement.{Judgement}
-use Rattle.types.specs.declared.Judgement.TheVariants as judgement
 use Rattle.types.specs.declared.JudgedCounter.{JudgedCounter}
 use Rattle.counters.specs.Counters.{no_counters, Assessed, told_judgement}
-use Rattle.types.specs.declared.Sending.{Sending}
-use Rattle.types.specs.declared.Sending.TheVariants as sending
 use Rattle.types.specs.declared.Closing.{Closing}
 use Rattle.types.specs.declared.Closing.TheVariants as closing
 use Rattle.types.specs.declared.AfterSending.{AfterSending}
 use Rattle.types.specs.declared.AfterResponse.{AfterResponse}
 use Rattle.gateway.specs.Gateway as gateway
 use Rattle.types.specs.declared.WrittenPart.{WrittenPart}
-use Rattle.types.specs.declared.WrittenPart.TheVariants as written_part
 use Rattle.split.specs.Splitting as split
 use Rattle.types.specs.declared.Outgoing.{Outgoing}
 use Rattle.types.specs.declared.Outgoing.TheVariants as outgoing
-use Rattle.types.specs.declared.Announcing.{Announcing}
-use Rattle.types.specs.declared.Announcing.TheVariants as announcing
 use Rattle.report.specs.Reporting as report
 use Rattle.demands.specs.Tightness.{Tight, told_built, told_made, told_part, told_report, told_handed, told_taken, told_assessed, told_sent, told_came, Tellings, PlainPromises, One, Promises, told_beaten, told_made_state, told_taken_state, told_beaten_state, OneIn, told_log_made, told_log_taken, told_log_beaten, fixed_taken, fixed_beaten}
 use Rattle.types.specs.declared.Log.{Log}
@@ -84,8 +69,6 @@ use Rattle.plain.specs.ReadOff.{record_of}
 use Rattle.logs.specs.Laws.{entries_long}
 use Rattle.capture.specs.Captures.{next_run, record_in}
 use Rattle.ussd.specs.Ussd as ussd
-use Rattle.build.specs.declared.Ruling.{Ruling}
-use Rattle.build.specs.declared.Ruling.TheVariants as ruling
 use Rattle.build.specs.Within.{told_ruling}
 
 -- what can be read back is the same in outcomes that are told alike; if all can be read back, the outcomes are
@@ -170,173 +153,173 @@ cntr_at f i = (get_or f i 0, get_or f (i + 1) 0, get_or f (i + 2) 0, get_or f (i
 clear_of : List ℕ → Clear
 clear_of f = record { spi = (get_or f 0 0, get_or f 1 0); kic = get_or f 2 0; kid = get_or f 3 0; tar = tar_at f 4 }
 
-command_of : Outcome Parsed → ParsedCommand
-command_of (refused n) = parsed_command.Refused (refusal_of n)
+command_of : Outcome Parsed → Result parsed_command.Command Refusal
+command_of (refused n) = Err (refusal_of n)
 command_of (gives (plain_parsed f c d)) =
-    parsed_command.Fields (record { clear = clear_of f; body = command.Plain (record { cntr = cntr_at f 7; pcntr = get_or f 12 0; check_length = c; data_length = d }) })
+    Ok (record { clear = clear_of f; body = command.Plain (record { cntr = cntr_at f 7; pcntr = get_or f 12 0; check_length = c; data_length = d }) })
 command_of (gives (ciphered_parsed f h o)) =
-    parsed_command.Fields (record { clear = clear_of f; body = command.Ciphered (record { header_length = h; opaque_length = o }) })
+    Ok (record { clear = clear_of f; body = command.Ciphered (record { header_length = h; opaque_length = o }) })
 
-command_body : (x : Clear) (b : CommandBody) → command_of (told_command (parsed_command.Fields (record { clear = x; body = b }))) ≡ parsed_command.Fields (record { clear = x; body = b })
+command_body : (x : Clear) (b : CommandBody) → command_of (told_command (Ok (record { clear = x; body = b }))) ≡ Ok (record { clear = x; body = b })
 unfolding command_of clear_of tar_at cntr_at
 command_body x (command.Plain b) = refl
 command_body x (command.Ciphered b) = refl
 
-command_back : (r : ParsedCommand) → command_of (told_command r) ≡ r
+command_back : (r : Result parsed_command.Command Refusal) → command_of (told_command r) ≡ r
 unfolding command_of
-command_back (parsed_command.Fields c) = command_body c.clear c.body
-command_back (parsed_command.Refused r) = ap parsed_command.Refused (refusal_back r)
+command_back (Ok c) = command_body c.clear c.body
+command_back (Err r) = ap Err (refusal_back r)
 
-response_of : Outcome Parsed → ParsedResponse
-response_of (refused n) = parsed_response.Refused (refusal_of n)
+response_of : Outcome Parsed → Result parsed_response.Response Refusal
+response_of (refused n) = Err (refusal_of n)
 response_of (gives (plain_parsed f c d)) =
-    parsed_response.Fields (record { tar = tar_at f 0; body = response.Plain (record { cntr = cntr_at f 3; pcntr = get_or f 8 0; status = get_or f 9 0; check_length = c; data_length = d }) })
-response_of (gives (ciphered_parsed f h o)) = parsed_response.Fields (record { tar = tar_at f 0; body = response.Ciphered (record { header_length = h; opaque_length = o }) })
+    Ok (record { tar = tar_at f 0; body = response.Plain (record { cntr = cntr_at f 3; pcntr = get_or f 8 0; status = get_or f 9 0; check_length = c; data_length = d }) })
+response_of (gives (ciphered_parsed f h o)) = Ok (record { tar = tar_at f 0; body = response.Ciphered (record { header_length = h; opaque_length = o }) })
 
-response_body : (t : Tar) (b : ResponseBody) → response_of (told_response (parsed_response.Fields (record { tar = t; body = b }))) ≡ parsed_response.Fields (record { tar = t; body = b })
+response_body : (t : Tar) (b : ResponseBody) → response_of (told_response (Ok (record { tar = t; body = b }))) ≡ Ok (record { tar = t; body = b })
 unfolding response_of tar_at cntr_at
 response_body t (response.Plain b) = refl
 response_body t (response.Ciphered b) = refl
 
-response_back : (r : ParsedResponse) → response_of (told_response r) ≡ r
+response_back : (r : Result parsed_response.Response Refusal) → response_of (told_response r) ≡ r
 unfolding response_of
-response_back (parsed_response.Fields c) = response_body c.tar c.body
-response_back (parsed_response.Refused r) = ap parsed_response.Refused (refusal_back r)
+response_back (Ok c) = response_body c.tar c.body
+response_back (Err r) = ap Err (refusal_back r)
 
 -- ---- what writing leaves
-written_of : Lent → Written × List ℕ
-written_of (refused n, b) = (written.Refused (refusal_of n), b)
-written_of (gives m, b) = (written.Octets m, b)
+written_of : Lent → Result ℕ Refusal × List ℕ
+written_of (refused n, b) = (Err (refusal_of n), b)
+written_of (gives m, b) = (Ok m, b)
 
-written_back : (r : Written × List ℕ) → written_of (told_built r) ≡ r
+written_back : (r : Result ℕ Refusal × List ℕ) → written_of (told_built r) ≡ r
 unfolding written_of
-written_back (written.Octets m, b) = refl
-written_back (written.Refused r, b) = ap (λ (x : Refusal). (written.Refused x, b)) (refusal_back r)
+written_back (Ok m, b) = refl
+written_back (Err r, b) = ap (λ (x : Refusal). (Err x, b)) (refusal_back r)
 
-part_of : split.Written → WrittenPart × List ℕ
+part_of : split.Written → Result WrittenPart Refusal × List ℕ
 part_of x = go x.answer x.buffer
   where
-    go : Outcome split.Told → List ℕ → WrittenPart × List ℕ
-    go (refused n) b = (written_part.Refused (refusal_of n), b)
-    go (gives t) b = (written_part.Part t.total t.size, b)
+    go : Outcome split.Told → List ℕ → Result WrittenPart Refusal × List ℕ
+    go (refused n) b = (Err (refusal_of n), b)
+    go (gives t) b = (Ok (record { total = t.total; length = t.size }), b)
 
-part_back_lem : (r : WrittenPart × List ℕ) → part_of (told_part r) ≡ r
+part_back_lem : (r : Result WrittenPart Refusal × List ℕ) → part_of (told_part r) ≡ r
 unfolding part_of
-part_back_lem (written_part.Part t m, b) = refl
-part_back_lem (written_part.Refused r, b) = ap (λ (x : Refusal). (written_part.Refused x, b)) (refusal_back r)
+part_back_lem (Ok x, b) = refl
+part_back_lem (Err r, b) = ap (λ (x : Refusal). (Err x, b)) (refusal_back r)
 
-report_of : report.Reported → Outgoing × List ℕ
-report_of (refused n, b) = (outgoing.Refused (refusal_of n), b)
-report_of (gives report.nothing_goes, b) = (outgoing.Nothing, b)
-report_of (gives (report.in_report m), b) = (outgoing.Report m, b)
-report_of (gives (report.announced m), b) = (outgoing.Announcement m, b)
-report_of (gives report.submitted, b) = (outgoing.Submit, b)
+report_of : report.Reported → Result Outgoing Refusal × List ℕ
+report_of (refused n, b) = (Err (refusal_of n), b)
+report_of (gives report.nothing_goes, b) = ((Ok outgoing.Nothing), b)
+report_of (gives (report.in_report m), b) = (Ok (outgoing.Report m), b)
+report_of (gives (report.announced m), b) = (Ok (outgoing.Announcement m), b)
+report_of (gives report.submitted, b) = ((Ok outgoing.Submit), b)
 
-report_back : (r : Outgoing × List ℕ) → report_of (told_report r) ≡ r
+report_back : (r : Result Outgoing Refusal × List ℕ) → report_of (told_report r) ≡ r
 unfolding report_of
-report_back (outgoing.Nothing, b) = refl
-report_back (outgoing.Report m, b) = refl
-report_back (outgoing.Announcement m, b) = refl
-report_back (outgoing.Submit, b) = refl
-report_back (outgoing.Refused r, b) = ap (λ (x : Refusal). (outgoing.Refused x, b)) (refusal_back r)
+report_back ((Ok outgoing.Nothing), b) = refl
+report_back (Ok (outgoing.Report m), b) = refl
+report_back (Ok (outgoing.Announcement m), b) = refl
+report_back ((Ok outgoing.Submit), b) = refl
+report_back (Err r, b) = ap (λ (x : Refusal). (Err x, b)) (refusal_back r)
 
-announcing_of : Outcome Bool → Announcing
-announcing_of (refused n) = announcing.Refused (refusal_of n)
-announcing_of (gives true) = announcing.Yes
-announcing_of (gives false) = announcing.No
+announcing_of : Outcome Bool → Result Bool Refusal
+announcing_of (refused n) = Err (refusal_of n)
+announcing_of (gives true) = (Ok true)
+announcing_of (gives false) = (Ok false)
 
-announcing_back : (r : Announcing) → announcing_of (report.told_announcing r) ≡ r
+announcing_back : (r : Result Bool Refusal) → announcing_of (report.told_announcing r) ≡ r
 unfolding announcing_of
-announcing_back announcing.Yes = refl
-announcing_back announcing.No = refl
-announcing_back (announcing.Refused r) = ap announcing.Refused (refusal_back r)
+announcing_back (Ok true) = refl
+announcing_back (Ok false) = refl
+announcing_back (Err r) = ap Err (refusal_back r)
 
 -- ---- what reading and taking leave
-arrival_of : Outcome Brought → Arrival
-arrival_of (refused n) = arrival.Refused (refusal_of n)
-arrival_of (gives (single s)) = arrival.Single s
-arrival_of (gives (part k t m s)) = arrival.Part k t m s
+arrival_of : Outcome Brought → Result Arrival Refusal
+arrival_of (refused n) = Err (refusal_of n)
+arrival_of (gives (single s)) = Ok (arrival.Single s)
+arrival_of (gives (part k t m s)) = Ok (arrival.Part k t m s)
 
-arrival_back : (r : Arrival) → arrival_of (told_arrival r) ≡ r
+arrival_back : (r : Result Arrival Refusal) → arrival_of (told_arrival r) ≡ r
 unfolding arrival_of
-arrival_back (arrival.Single s) = refl
-arrival_back (arrival.Part k t m s) = refl
-arrival_back (arrival.Refused r) = ap arrival.Refused (refusal_back r)
+arrival_back (Ok (arrival.Single s)) = refl
+arrival_back (Ok (arrival.Part k t m s)) = refl
+arrival_back (Err r) = ap Err (refusal_back r)
 
-answer_of : taking.Answer → Answer
-answer_of (taking.kept s d) = answer.Kept s d
-answer_of (taking.held_already s) = answer.HeldAlready s
-answer_of (taking.packet m) = answer.Packet m
-answer_of (taking.refused_by n) = answer.Refused (refusal_of n)
+answer_of : taking.Answer → Result Answer Refusal
+answer_of (taking.kept s d) = Ok (answer.Kept s d)
+answer_of (taking.held_already s) = Ok (answer.HeldAlready s)
+answer_of (taking.packet m) = Ok (answer.Packet m)
+answer_of (taking.refused_by n) = Err (refusal_of n)
 
-answer_back : (r : Answer) → answer_of (taking.told_answer r) ≡ r
+answer_back : (r : Result Answer Refusal) → answer_of (taking.told_answer r) ≡ r
 unfolding answer_of
-answer_back (answer.Kept s d) = refl
-answer_back (answer.HeldAlready s) = refl
-answer_back (answer.Packet m) = refl
-answer_back (answer.Refused r) = ap answer.Refused (refusal_back r)
+answer_back (Ok (answer.Kept s d)) = refl
+answer_back (Ok (answer.HeldAlready s)) = refl
+answer_back (Ok (answer.Packet m)) = refl
+answer_back (Err r) = ap Err (refusal_back r)
 
-making_of : Outcome Unit → Making
-making_of (refused n) = making.Refused (refusal_of n)
-making_of (gives x) = making.Fresh
+making_of : Outcome Unit → Result Unit Refusal
+making_of (refused n) = Err (refusal_of n)
+making_of (gives x) = (Ok tt)
 
-making_back : (r : Making) → making_of (told_making r) ≡ r
+making_back : (r : Result Unit Refusal) → making_of (told_making r) ≡ r
 unfolding making_of
-making_back making.Fresh = refl
-making_back (making.Refused r) = ap making.Refused (refusal_back r)
+making_back (Ok tt) = refl
+making_back (Err r) = ap Err (refusal_back r)
 
 made_of : Beside → Made
 made_of (answer, r) = record { answer = making_of answer; «record» = r }
 
 made_back : (r : Made) → made_of (told_made r) ≡ r
 unfolding made_of
-made_back r = ap (λ (x : Making). record { answer = x; «record» = r.«record» }) (making_back r.answer)
+made_back r = ap (λ (x : Result Unit Refusal). record { answer = x; «record» = r.«record» }) (making_back r.answer)
 
 taken_of : taking.After → Taken × (List ℕ × List ℕ)
 taken_of a = (record { answer = answer_of a.answer; «record» = a.state.rec }, (a.state.cells, a.state.output))
 
 taken_back_lem : (r : Taken × (List ℕ × List ℕ)) → taken_of (told_taken r) ≡ r
 unfolding taken_of
-taken_back_lem (r, (cells, output)) = ap (λ (x : Answer). (record { answer = x; «record» = r.«record» }, (cells, output))) (answer_back r.answer)
+taken_back_lem (r, (cells, output)) = ap (λ (x : Result Answer Refusal). (record { answer = x; «record» = r.«record» }, (cells, output))) (answer_back r.answer)
 
 -- ---- what a beat leaves
-beating_of : Outcome ℕ → beating.Beating
-beating_of (refused n) = beating.TheVariants.Refused (refusal_of n)
-beating_of (gives m) = beating.TheVariants.Dropped m
+beating_of : Outcome ℕ → Result ℕ Refusal
+beating_of (refused n) = Err (refusal_of n)
+beating_of (gives m) = Ok m
 
-beating_back : (r : beating.Beating) → beating_of (told_beating r) ≡ r
+beating_back : (r : Result ℕ Refusal) → beating_of (told_beating r) ≡ r
 unfolding beating_of
-beating_back (beating.TheVariants.Dropped m) = refl
-beating_back (beating.TheVariants.Refused r) = ap beating.TheVariants.Refused (refusal_back r)
+beating_back (Ok m) = refl
+beating_back (Err r) = ap Err (refusal_back r)
 
 beaten_of : AfterBeat → Beaten
 beaten_of a = record { answer = beating_of a.answer; «record» = a.rec }
 
 beaten_back : (r : Beaten) → beaten_of (told_beaten r) ≡ r
 unfolding beaten_of
-beaten_back r = ap (λ (x : beating.Beating). record { answer = x; «record» = r.record }) (beating_back r.answer)
+beaten_back r = ap (λ (x : Result ℕ Refusal). record { answer = x; «record» = r.record }) (beating_back r.answer)
 
 -- ---- what the calls on a state leave
-made_state_of : layout.OnState (Outcome Unit) → Making × List ℕ
+made_state_of : layout.OnState (Outcome Unit) → Result Unit Refusal × List ℕ
 made_state_of a = (making_of a.answer, a.octets)
 
-made_state_back : (r : Making × List ℕ) → made_state_of (told_made_state r) ≡ r
+made_state_back : (r : Result Unit Refusal × List ℕ) → made_state_of (told_made_state r) ≡ r
 unfolding made_state_of
-made_state_back (r, s) = ap (λ (x : Making). (x, s)) (making_back r)
+made_state_back (r, s) = ap (λ (x : Result Unit Refusal). (x, s)) (making_back r)
 
-taken_state_of : card.TakenState → Answer × (List ℕ × (List ℕ × List ℕ))
+taken_state_of : card.TakenState → Result Answer Refusal × (List ℕ × (List ℕ × List ℕ))
 taken_state_of a = (answer_of a.answer, (a.octets, (a.cells, a.output)))
 
-taken_state_back : (r : Answer × (List ℕ × (List ℕ × List ℕ))) → taken_state_of (told_taken_state r) ≡ r
+taken_state_back : (r : Result Answer Refusal × (List ℕ × (List ℕ × List ℕ))) → taken_state_of (told_taken_state r) ≡ r
 unfolding taken_state_of
-taken_state_back (r, (s, (cells, output))) = ap (λ (x : Answer). (x, (s, (cells, output)))) (answer_back r)
+taken_state_back (r, (s, (cells, output))) = ap (λ (x : Result Answer Refusal). (x, (s, (cells, output)))) (answer_back r)
 
-beaten_state_of : layout.OnState (Outcome ℕ) → beating.Beating × List ℕ
+beaten_state_of : layout.OnState (Outcome ℕ) → Result ℕ Refusal × List ℕ
 beaten_state_of a = (beating_of a.answer, a.octets)
 
-beaten_state_back : (r : beating.Beating × List ℕ) → beaten_state_of (told_beaten_state r) ≡ r
+beaten_state_back : (r : Result ℕ Refusal × List ℕ) → beaten_state_of (told_beaten_state r) ≡ r
 unfolding beaten_state_of
-beaten_state_back (r, s) = ap (λ (x : beating.Beating). (x, s)) (beating_back r)
+beaten_state_back (r, s) = ap (λ (x : Result ℕ Refusal). (x, s)) (beating_back r)
 
 -- ---- what calls on a log leave
 log_made_of : log.BesideLog → LogMade
@@ -344,7 +327,7 @@ log_made_of (answer, l) = record { answer = making_of answer; log = l }
 
 log_made_back : (r : LogMade) → log_made_of (told_log_made r) ≡ r
 unfolding log_made_of
-log_made_back r = ap (λ (x : Making). record { answer = x; log = r.log }) (making_back r.answer)
+log_made_back r = ap (λ (x : Result Unit Refusal). record { answer = x; log = r.log }) (making_back r.answer)
 
 -- the log by value is read back too: it has as many entries as it counts
 log_of : LogState → Log
@@ -369,100 +352,100 @@ unfolding log_beaten_of
 log_beaten_back (r, lent) = λ i. (record { answer = beating_back r.answer i; log = log_back r.log lent i }, state_in r.log lent)
 
 -- ---- what judging a counter leaves
-judgement_of : Outcome ℕ → Judgement
-judgement_of (refused n) = judgement.Refused (refusal_of n)
-judgement_of (gives s) = judgement.Status s
+judgement_of : Outcome ℕ → Result ℕ Refusal
+judgement_of (refused n) = Err (refusal_of n)
+judgement_of (gives s) = Ok s
 
-judgement_back : (r : Judgement) → judgement_of (told_judgement r) ≡ r
+judgement_back : (r : Result ℕ Refusal) → judgement_of (told_judgement r) ≡ r
 unfolding judgement_of
-judgement_back (judgement.Status s) = refl
-judgement_back (judgement.Refused r) = ap judgement.Refused (refusal_back r)
+judgement_back (Ok s) = refl
+judgement_back (Err r) = ap Err (refusal_back r)
 
 assessed_of : Assessed → JudgedCounter
 assessed_of a = record { answer = judgement_of a.answer; counters = a.counters }
 
 assessed_back : (r : JudgedCounter) → assessed_of (told_assessed r) ≡ r
 unfolding assessed_of
-assessed_back r = ap (λ (x : Judgement). record { answer = x; counters = r.counters }) (judgement_back r.answer)
+assessed_back r = ap (λ (x : Result ℕ Refusal). record { answer = x; counters = r.counters }) (judgement_back r.answer)
 
 -- ---- what a command that was sent, and a response that came, leave
-sending_of : Outcome Unit → Sending
-sending_of (refused n) = sending.Refused (refusal_of n)
-sending_of (gives x) = sending.Sent
+sending_of : Outcome Unit → Result Unit Refusal
+sending_of (refused n) = Err (refusal_of n)
+sending_of (gives x) = (Ok tt)
 
-sending_back : (r : Sending) → sending_of (gateway.told_sending r) ≡ r
+sending_back : (r : Result Unit Refusal) → sending_of (gateway.told_sending r) ≡ r
 unfolding sending_of
-sending_back sending.Sent = refl
-sending_back (sending.Refused r) = ap sending.Refused (refusal_back r)
+sending_back (Ok tt) = refl
+sending_back (Err r) = ap Err (refusal_back r)
 
 sent_of : gateway.Settled Unit → AfterSending
 sent_of (answer, t) = record { answer = sending_of answer; outstanding = t }
 
 sent_back : (r : AfterSending) → sent_of (told_sent r) ≡ r
 unfolding sent_of
-sent_back r = ap (λ (x : Sending). record { answer = x; outstanding = r.outstanding }) (sending_back r.answer)
+sent_back r = ap (λ (x : Result Unit Refusal). record { answer = x; outstanding = r.outstanding }) (sending_back r.answer)
 
-closing_of : Outcome gateway.Fate → Closing
-closing_of (refused n) = closing.Refused (refusal_of n)
-closing_of (gives gateway.fate_closed) = closing.Closed
-closing_of (gives gateway.fate_waiting) = closing.Waiting
+closing_of : Outcome gateway.Fate → Result Closing Refusal
+closing_of (refused n) = Err (refusal_of n)
+closing_of (gives gateway.fate_closed) = (Ok closing.Closed)
+closing_of (gives gateway.fate_waiting) = (Ok closing.Waiting)
 
-closing_back : (r : Closing) → closing_of (gateway.told_closing r) ≡ r
+closing_back : (r : Result Closing Refusal) → closing_of (gateway.told_closing r) ≡ r
 unfolding closing_of
-closing_back closing.Closed = refl
-closing_back closing.Waiting = refl
-closing_back (closing.Refused r) = ap closing.Refused (refusal_back r)
+closing_back (Ok closing.Closed) = refl
+closing_back (Ok closing.Waiting) = refl
+closing_back (Err r) = ap Err (refusal_back r)
 
 came_of : gateway.Settled gateway.Fate → AfterResponse
 came_of (answer, t) = record { answer = closing_of answer; outstanding = t }
 
 came_back : (r : AfterResponse) → came_of (told_came r) ≡ r
 unfolding came_of
-came_back r = ap (λ (x : Closing). record { answer = x; outstanding = r.outstanding }) (closing_back r.answer)
+came_back r = ap (λ (x : Result Closing Refusal). record { answer = x; outstanding = r.outstanding }) (closing_back r.answer)
 
 -- ---- calls between crates
-ruling_of : Outcome ℕ → Ruling
-ruling_of (refused n) = ruling.Refused (refusal_of n)
-ruling_of (gives h) = ruling.Allowed
+ruling_of : Outcome ℕ → Result Unit Refusal
+ruling_of (refused n) = Err (refusal_of n)
+ruling_of (gives h) = (Ok tt)
 
-ruling_back : (r : Ruling) → ruling_of (told_ruling r) ≡ r
+ruling_back : (r : Result Unit Refusal) → ruling_of (told_ruling r) ≡ r
 unfolding ruling_of
-ruling_back ruling.Allowed = refl
-ruling_back (ruling.Refused r) = ap ruling.Refused (refusal_back r)
+ruling_back (Ok tt) = refl
+ruling_back (Err r) = ap Err (refusal_back r)
 
-judged_of : Outcome ℕ → Judged
-judged_of (refused n) = judged.Refused (refusal_of n)
-judged_of (gives h) = judged.Readable h
+judged_of : Outcome ℕ → Result ℕ Refusal
+judged_of (refused n) = Err (refusal_of n)
+judged_of (gives h) = Ok h
 
-judged_back : (r : Judged) → judged_of (told_judged r) ≡ r
+judged_back : (r : Result ℕ Refusal) → judged_of (told_judged r) ≡ r
 unfolding judged_of
-judged_back (judged.Readable h) = refl
-judged_back (judged.Refused r) = ap judged.Refused (refusal_back r)
+judged_back (Ok h) = refl
+judged_back (Err r) = ap Err (refusal_back r)
 
-walked_of : Outcome Seen → Walked
-walked_of (refused n) = walked.Past
-walked_of (gives s) = walked.Header s
+walked_of : Outcome Seen → option.Option Seen
+walked_of (refused n) = None
+walked_of (gives s) = Some s
 
-walked_back : (r : Walked) → walked_of (told_walked r) ≡ r
+walked_back : (r : option.Option Seen) → walked_of (told_walked r) ≡ r
 unfolding walked_of
-walked_back (walked.Header s) = refl
-walked_back walked.Past = refl
+walked_back (Some s) = refl
+walked_back None = refl
 
-size_of : Option ℕ → joined.Size
-size_of none = joined.TheVariants.None
-size_of (some n) = joined.TheVariants.Octets n
+size_of : Option ℕ → option.Option ℕ
+size_of none = None
+size_of (some n) = Some n
 
-size_back : (r : joined.Size) → size_of (told_size r) ≡ r
+size_back : (r : option.Option ℕ) → size_of (told_size r) ≡ r
 unfolding size_of
-size_back (joined.TheVariants.Octets n) = refl
-size_back joined.TheVariants.None = refl
+size_back (Some n) = refl
+size_back None = refl
 
-handed_of : Option ℕ × List ℕ → joined.Size × List ℕ
+handed_of : Option ℕ × List ℕ → option.Option ℕ × List ℕ
 handed_of (o, b) = (size_of o, b)
 
-handed_back : (r : joined.Size × List ℕ) → handed_of (told_handed r) ≡ r
+handed_back : (r : option.Option ℕ × List ℕ) → handed_of (told_handed r) ≡ r
 unfolding handed_of
-handed_back (r, b) = ap (λ (x : joined.Size). (x, b)) (size_back r)
+handed_back (r, b) = ap (λ (x : option.Option ℕ). (x, b)) (size_back r)
 
 -- ---- the forms of outcomes
 pub tellings : Tellings

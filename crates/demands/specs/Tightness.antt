@@ -1,5 +1,9 @@
 -- "Two outcomes allowed by one promise are shown equal" (01, "How tight the promises are"). A promise has the form: what the paper says of an
 -- outcome is what the rule says. It is tight where no two outcomes are told alike.
+use Rattle.types.specs.declared.Command as parsed_command
+use Rattle.types.specs.declared.Response as parsed_response
+use Rattle.std.specs.declared.result.Result.{Result}
+use Rattle.std.specs.declared.option.Option as option
 use Rattle.std.specs.Prelude.{ℕ, ◌≡◌, Bool, ◌&&◌, List}
 use Rattle.std.proofs.Math.Option.{Option}
 use Rattle.std.proofs.Math.ListN as list
@@ -10,13 +14,10 @@ use Rattle.types.specs.declared.Pair.{Pair}
 use Rattle.types.specs.declared.Tar.{Tar}
 use Rattle.types.specs.declared.Cntr.{Cntr}
 use Rattle.types.specs.declared.Clear.{Clear}
-use Rattle.types.specs.declared.ParsedCommand.{ParsedCommand}
-use Rattle.types.specs.declared.ParsedResponse.{ParsedResponse}
 use Rattle.types.specs.declared.Arrival.{Arrival}
 use Rattle.types.specs.declared.SerialNumber.{SerialNumber}
 use Rattle.types.specs.declared.MessageIdentifier.{MessageIdentifier}
 use Rattle.types.specs.declared.Record.{Record}
-use Rattle.types.specs.declared.Written.{Written}
 use Rattle.types.specs.declared.Answer.{Answer}
 use Rattle.types.specs.Refusals.{Outcome, Lent, lent, refusal_number, told_written}
 use Rattle.octets.specs.Octets as octets
@@ -28,7 +29,6 @@ use Rattle.header.specs.Reading.{told_walked}
 use Rattle.arrival.specs.Arrivals.{told_arrival}
 use Rattle.arrival.specs.Message.{read_message}
 use Rattle.arrival.specs.Page.{read_page}
-use Rattle.joined.specs.declared.Size.{Size}
 use Rattle.joined.specs.Fronts.{told_size}
 use Rattle.slots.specs.Slots.{default_slots, fresh_record, Beside, beside, told_making, making}
 use Rattle.formed.specs.Formed.{record_formed}
@@ -37,8 +37,6 @@ use Rattle.types.specs.declared.Taken.{Taken}
 use Rattle.types.specs.declared.Beaten.{Beaten}
 use Rattle.beats.specs.Beats as beats
 use Rattle.series.specs.Taking as taking
-use Rattle.types.specs.declared.Making.{Making}
-use Rattle.types.specs.declared.Beating.{Beating}
 use Rattle.series.specs.Calls.{message, page}
 use Rattle.layout.specs.Layout as layout
 use Rattle.sound.specs.Card as sound
@@ -54,7 +52,6 @@ use Rattle.types.specs.declared.WrittenPart.{WrittenPart}
 use Rattle.split.specs.Splitting as split
 use Rattle.types.specs.declared.Spi.{Spi}
 use Rattle.types.specs.declared.Outgoing.{Outgoing}
-use Rattle.types.specs.declared.Announcing.{Announcing}
 use Rattle.report.specs.Reporting as report
 use Rattle.types.specs.declared.Counters.{Counters}
 use Rattle.types.specs.declared.JudgedCounter.{JudgedCounter}
@@ -75,17 +72,17 @@ Tight {Outcome} {Paper} told = (rule : Paper) (r₁ r₂ : Outcome) → told r�
 
 -- ---- what the calls leave, and what is told of it
 -- an answer, and the lent buffer as it is afterwards
-abbrev pub told_built : Written × List ℕ → Lent
+abbrev pub told_built : Result ℕ Refusal × List ℕ → Lent
 told_built (r, buffer) = lent (told_written r) buffer
 
-abbrev pub told_part : WrittenPart × List ℕ → split.Written
+abbrev pub told_part : Result WrittenPart Refusal × List ℕ → split.Written
 told_part (r, buffer) = split.written (split.told r) buffer
 
-abbrev pub told_report : Outgoing × List ℕ → report.Reported
+abbrev pub told_report : Result Outgoing Refusal × List ℕ → report.Reported
 told_report (r, buffer) = report.reported (report.told_outgoing r) buffer
 
 -- how long a single packet is, if there is one, and the output as it is afterwards
-abbrev pub told_handed : Size × List ℕ → Option ℕ × List ℕ
+abbrev pub told_handed : option.Option ℕ × List ℕ → Option ℕ × List ℕ
 told_handed (r, output) = (told_size r, output)
 
 -- an answer with the record that stands beside it
@@ -101,13 +98,13 @@ abbrev pub told_beaten : Beaten → beats.AfterBeat
 told_beaten r = beats.beaten (beats.told_beating r.answer) r.record
 
 -- an answer of a call on a state, with its octets as they are afterwards, and with the lent cells and output
-abbrev pub told_made_state : Making × List ℕ → layout.OnState (Outcome Unit)
+abbrev pub told_made_state : Result Unit Refusal × List ℕ → layout.OnState (Outcome Unit)
 told_made_state (r, s) = layout.on_state (told_making r) s
 
-abbrev pub told_taken_state : Answer × (List ℕ × (List ℕ × List ℕ)) → card.TakenState
+abbrev pub told_taken_state : Result Answer Refusal × (List ℕ × (List ℕ × List ℕ)) → card.TakenState
 told_taken_state (r, (s, (cells, output))) = card.taken_state (taking.told_answer r) s cells output
 
-abbrev pub told_beaten_state : Beating × List ℕ → layout.OnState (Outcome ℕ)
+abbrev pub told_beaten_state : Result ℕ Refusal × List ℕ → layout.OnState (Outcome ℕ)
 told_beaten_state (r, s) = layout.on_state (beats.told_beating r) s
 
 -- the same of a log: beside the answer there is the log by value, and what its entries say in the lent octets
@@ -209,23 +206,23 @@ pub record Promises : Type 0 where
   pub same_octets_lem : (a b : List ℕ) → One (λ (r : Bool). r ≡ octets.same_octets a b)
   pub first_octets : (src : List ℕ) (n : ℕ) → One (λ (r : List ℕ). r ≡ list.take n src)
   -- what an answer is about
-  pub packet_in_lem : (x : Answer) (out : List ℕ) → One (λ (r : List ℕ). r ≡ list.take (given.packet_length x) out)
-  pub written_in : (x : Written) (buffer : List ℕ) → One (λ (r : List ℕ). r ≡ list.take (given.written_length x) buffer)
-  pub part_in : (x : WrittenPart) (buffer : List ℕ) → One (λ (r : List ℕ). r ≡ list.take (given.part_length x) buffer)
+  pub packet_in_lem : (x : Result Answer Refusal) (out : List ℕ) → One (λ (r : List ℕ). r ≡ list.take (given.packet_length x) out)
+  pub written_in : (x : Result ℕ Refusal) (buffer : List ℕ) → One (λ (r : List ℕ). r ≡ list.take (given.written_length x) buffer)
+  pub part_in : (x : Result WrittenPart Refusal) (buffer : List ℕ) → One (λ (r : List ℕ). r ≡ list.take (given.part_length x) buffer)
   -- packets
   pub build_command : (clear : Clear) (cntr : Cntr) (pcntr : ℕ) (check secured out : List ℕ)
-      → One (λ (r : Written × List ℕ). told_built r ≡ built Command (plain (command_fixed clear cntr pcntr) check secured) out)
+      → One (λ (r : Result ℕ Refusal × List ℕ). told_built r ≡ built Command (plain (command_fixed clear cntr pcntr) check secured) out)
   pub build_ciphered_command : (clear : Clear) (header : ℕ) (opaque out : List ℕ)
-      → One (λ (r : Written × List ℕ). told_built r ≡ built Command (ciphered (clear_octets clear) header opaque) out)
+      → One (λ (r : Result ℕ Refusal × List ℕ). told_built r ≡ built Command (ciphered (clear_octets clear) header opaque) out)
   pub build_response : (tar : Tar) (cntr : Cntr) (pcntr status : ℕ) (check secured out : List ℕ)
-      → One (λ (r : Written × List ℕ). told_built r ≡ built Response (plain (response_fixed tar cntr pcntr status) check secured) out)
+      → One (λ (r : Result ℕ Refusal × List ℕ). told_built r ≡ built Response (plain (response_fixed tar cntr pcntr status) check secured) out)
   pub build_ciphered_response : (tar : Tar) (header : ℕ) (opaque out : List ℕ)
-      → One (λ (r : Written × List ℕ). told_built r ≡ built Response (ciphered (tar_octets tar) header opaque) out)
-  pub command_checksum : (p out : List ℕ) → One (λ (r : Written × List ℕ). told_built r ≡ checksummed Command (ciphered_command p) p out)
-  pub response_checksum : (p : List ℕ) (c : Bool) (out : List ℕ) → One (λ (r : Written × List ℕ). told_built r ≡ checksummed Response c p out)
+      → One (λ (r : Result ℕ Refusal × List ℕ). told_built r ≡ built Response (ciphered (tar_octets tar) header opaque) out)
+  pub command_checksum : (p out : List ℕ) → One (λ (r : Result ℕ Refusal × List ℕ). told_built r ≡ checksummed Command (ciphered_command p) p out)
+  pub response_checksum : (p : List ℕ) (c : Bool) (out : List ℕ) → One (λ (r : Result ℕ Refusal × List ℕ). told_built r ≡ checksummed Response c p out)
   pub packet_formed : (k : Kind) (p : List ℕ) → One (λ (r : Bool). r ≡ well_formed k p)
-  pub parse_command : (p : List ℕ) → One (λ (r : ParsedCommand). told_command r ≡ parsing Command (ciphered_command p) p)
-  pub parse_response : (p : List ℕ) (c : Bool) → One (λ (r : ParsedResponse). told_response r ≡ parsing Response c p)
+  pub parse_command : (p : List ℕ) → One (λ (r : Result parsed_command.Command Refusal). told_command r ≡ parsing Command (ciphered_command p) p)
+  pub parse_response : (p : List ℕ) (c : Bool) → One (λ (r : Result parsed_response.Response Refusal). told_response r ≡ parsing Response c p)
   pub command_check : (p : List ℕ) → One (λ (r : List ℕ). r ≡ shown_check Command (ciphered_command p) p)
   pub command_data : (p : List ℕ) → One (λ (r : List ℕ). r ≡ shown_data Command (ciphered_command p) p)
   pub command_opaque : (p : List ℕ) → One (λ (r : List ℕ). r ≡ shown_opaque Command (ciphered_command p) p)
@@ -233,18 +230,18 @@ pub record Promises : Type 0 where
   pub response_data : (p : List ℕ) (c : Bool) → One (λ (r : List ℕ). r ≡ shown_data Response c p)
   pub response_opaque : (p : List ℕ) (c : Bool) → One (λ (r : List ℕ). r ≡ shown_opaque Response c p)
   -- USSD strings
-  pub read_ussd_lem : (pfi dcs : ℕ) (s : List ℕ) → One (λ (r : ParsedCommand). told_command r ≡ ussd.read_ussd pfi dcs s)
+  pub read_ussd_lem : (pfi dcs : ℕ) (s : List ℕ) → One (λ (r : Result parsed_command.Command Refusal). told_command r ≡ ussd.read_ussd pfi dcs s)
   pub ussd_check : (pfi dcs : ℕ) (s : List ℕ) → One (λ (r : List ℕ). r ≡ ussd.shown_ussd_check pfi dcs s)
   pub ussd_data : (pfi dcs : ℕ) (s : List ℕ) → One (λ (r : List ℕ). r ≡ ussd.shown_ussd_data pfi dcs s)
   pub ussd_opaque : (pfi dcs : ℕ) (s : List ℕ) → One (λ (r : List ℕ). r ≡ ussd.shown_ussd_opaque pfi dcs s)
   pub write_ussd : (pfi : ℕ) (clear : Clear) (cntr : Cntr) (pcntr : ℕ) (check secured out : List ℕ)
-      → One (λ (r : Written × List ℕ). told_built r ≡ ussd.written_ussd pfi (plain (command_fixed clear cntr pcntr) check secured) out)
+      → One (λ (r : Result ℕ Refusal × List ℕ). told_built r ≡ ussd.written_ussd pfi (plain (command_fixed clear cntr pcntr) check secured) out)
   pub write_ciphered_ussd : (pfi : ℕ) (clear : Clear) (header : ℕ) (opaque out : List ℕ)
-      → One (λ (r : Written × List ℕ). told_built r ≡ ussd.written_ussd pfi (ciphered (clear_octets clear) header opaque) out)
-  pub ussd_checksum : (um out : List ℕ) → One (λ (r : Written × List ℕ). told_built r ≡ ussd.ussd_checksummed um out)
+      → One (λ (r : Result ℕ Refusal × List ℕ). told_built r ≡ ussd.written_ussd pfi (ciphered (clear_octets clear) header opaque) out)
+  pub ussd_checksum : (um out : List ℕ) → One (λ (r : Result ℕ Refusal × List ℕ). told_built r ≡ ussd.ussd_checksummed um out)
   -- arrivals
-  pub read_message_lem : (k : Kind) (sender : ℕ) (ud : List ℕ) → One (λ (r : Arrival). told_arrival r ≡ read_message k sender ud)
-  pub read_page_lem : (k : Kind) (page : List ℕ) → One (λ (r : Arrival). told_arrival r ≡ read_page k page)
+  pub read_message_lem : (k : Kind) (sender : ℕ) (ud : List ℕ) → One (λ (r : Result Arrival Refusal). told_arrival r ≡ read_message k sender ud)
+  pub read_page_lem : (k : Kind) (page : List ℕ) → One (λ (r : Result Arrival Refusal). told_arrival r ≡ read_page k page)
   pub own_octets : (o : List ℕ) (start : ℕ) → One (λ (r : List ℕ). r ≡ list.drop start o)
   -- series
   pub fresh_record_lem : (k : Kind) → One (λ (r : Record). r ≡ fresh_record default_slots k)
@@ -256,12 +253,12 @@ pub record Promises : Type 0 where
       → One (λ (r : Taken × (List ℕ × List ℕ)). told_taken r ≡ taking.take_page x.count (taking.state x cells out) page)
   pub beat : (x : Record) (limit : ℕ) → One (λ (r : Beaten). told_beaten r ≡ beats.beat x.count x limit)
   -- series on a state
-  pub fresh_state : (s : List ℕ) (k : Kind) (n : ℕ) → One (λ (r : Making × List ℕ). told_made_state r ≡ layout.making_state s n k)
+  pub fresh_state : (s : List ℕ) (k : Kind) (n : ℕ) → One (λ (r : Result Unit Refusal × List ℕ). told_made_state r ≡ layout.making_state s n k)
   pub state_formed_lem : (s : List ℕ) → One (λ (r : Bool). r ≡ (layout.known s && record_formed (layout.state_record s).count (layout.state_record s)))
   pub state_take_message : (s : List ℕ) (sender : ℕ) (ud cells out : List ℕ)
-      → One (λ (r : Answer × (List ℕ × (List ℕ × List ℕ))). told_taken_state r ≡ card.take_in s cells out (message sender ud))
-  pub state_take_page : (s o cells out : List ℕ) → One (λ (r : Answer × (List ℕ × (List ℕ × List ℕ))). told_taken_state r ≡ card.take_in s cells out (page o))
-  pub state_beat : (s : List ℕ) (limit : ℕ) → One (λ (r : Beating × List ℕ). told_beaten_state r ≡ sound.beat_in s limit)
+      → One (λ (r : Result Answer Refusal × (List ℕ × (List ℕ × List ℕ))). told_taken_state r ≡ card.take_in s cells out (message sender ud))
+  pub state_take_page : (s o cells out : List ℕ) → One (λ (r : Result Answer Refusal × (List ℕ × (List ℕ × List ℕ))). told_taken_state r ≡ card.take_in s cells out (page o))
+  pub state_beat : (s : List ℕ) (limit : ℕ) → One (λ (r : Result ℕ Refusal × List ℕ). told_beaten_state r ≡ sound.beat_in s limit)
   pub state_record_lem : (s : List ℕ) → One (λ (r : Record). r ≡ layout.state_record s)
   pub state_put : (x : Record) → One (λ (r : List ℕ). r ≡ layout.state_octets x)
   -- the same on a log
@@ -275,13 +272,13 @@ pub record Promises : Type 0 where
   pub log_record : (l : Log) (entries : List ℕ) → One (λ (r : Record). r ≡ record_of l.slots l.kind (entries_from entries 0 l.count))
   -- splitting
   pub write_message_lem : (k : Kind) (width reference number : ℕ) (p out : List ℕ)
-      → One (λ (r : WrittenPart × List ℕ). told_part r ≡ split.write_message k width reference p number out)
+      → One (λ (r : Result WrittenPart Refusal × List ℕ). told_part r ≡ split.write_message k width reference p number out)
   pub write_page_lem : (serial : SerialNumber) (identifier : MessageIdentifier) (dcs number : ℕ) (p out : List ℕ)
-      → One (λ (r : WrittenPart × List ℕ). told_part r ≡ split.write_page serial.0 identifier.0 dcs p number out)
+      → One (λ (r : Result WrittenPart Refusal × List ℕ). told_part r ≡ split.write_page serial.0 identifier.0 dcs p number out)
   -- reporting
   pub write_report_lem : (spi : Spi) (capacity edition : ℕ) (p out : List ℕ)
-      → One (λ (r : Outgoing × List ℕ). told_report r ≡ report.write_report edition spi.1 capacity p out)
-  pub response_announces_lem : (p : List ℕ) → One (λ (r : Announcing). report.told_announcing r ≡ report.response_announces p)
+      → One (λ (r : Result Outgoing Refusal × List ℕ). told_report r ≡ report.write_report edition spi.1 capacity p out)
+  pub response_announces_lem : (p : List ℕ) → One (λ (r : Result Bool Refusal). report.told_announcing r ≡ report.response_announces p)
   -- counters
   pub no_counters_lem : One (λ (r : Counters). r ≡ counters.no_counters)
   pub judge_counter_lem : (c : Counters) (p : List ℕ) → One (λ (r : JudgedCounter). told_assessed r ≡ counters.judge_counter c p)
@@ -291,6 +288,6 @@ pub record Promises : Type 0 where
       → One (λ (r : AfterSending). told_sent r ≡ gateway.command_sent t (gateway.sent_command sender tar cntr))
   pub response_came_lem : (t : Outstanding) (sender : ℕ) (p : List ℕ) → One (λ (r : AfterResponse). told_came r ≡ gateway.response_came t sender p)
   -- captures
-  pub salvage : (file output : List ℕ) → One (λ (r : Written × List ℕ). told_built r ≡ capture.salvaging file output)
+  pub salvage : (file output : List ℕ) → One (λ (r : Result ℕ Refusal × List ℕ). told_built r ≡ capture.salvaging file output)
   pub next_skipped : (file : List ℕ) (from : ℕ) → One (λ (r : SkippedRun). r ≡ capture.next_run file from)
-  pub read_captured : (o : List ℕ) → One (λ (r : Captured). r ≡ capture.record_in o)
+  pub read_captured : (o : List ℕ) → One (λ (r : option.Option Captured). r ≡ capture.record_in o)

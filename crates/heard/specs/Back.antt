@@ -1,25 +1,23 @@
 -- What a caller in C knows of an answer is the answer: it can be told back from the number that was returned and the numbers that were lent. 0 is done, since
 -- no refusal has the number 0.
+use Rattle.types.specs.declared.Command as parsed_command
+use Rattle.types.specs.declared.Response as parsed_response
+use Rattle.std.specs.declared.result.Result.{Result}
+use Rattle.std.specs.declared.result.Result.TheVariants.{Ok, Err}
 use Rattle.std.specs.Prelude.{ℕ, ◌≡◌, refl, Bool, true, false, cond, List, get_or, take, eqb}
 use Rattle.std.proofs.Common.{ap}
 use Rattle.types.specs.declared.Kind.{Kind}
 use Rattle.types.specs.declared.Kind.TheVariants.{Command, Response}
 use Rattle.types.specs.declared.Refusal.{Refusal}
 use Rattle.types.specs.declared.Refusal.TheVariants.{BufferOrRecord, InputLength, HeaderOverrun, HeaderElement, WrongIdentifier, TooManyParts, OtherTotal, OtherOctets, MalformedPacket, CipherMismatch, PacketHeader, PacketTooLong, ReferenceWidth, PartNumber, CheckMismatch, ReportCapacity, ReservedSpi, BeatLimit, CounterTable, UnknownEdition, TableFull, AlreadySent, Unmatched, CaptureTooLong, SlotNumber}
-use Rattle.types.specs.declared.Written as written
 use Rattle.types.specs.declared.WrittenPart as piece
 use Rattle.types.specs.declared.Arrival as arrival
 use Rattle.types.specs.declared.Answer as answer
-use Rattle.types.specs.declared.Beating as beating
-use Rattle.types.specs.declared.Making as making
 use Rattle.types.specs.declared.Outgoing as outgoing
-use Rattle.types.specs.declared.Announcing as announcing
 use Rattle.types.specs.declared.CommandBody as command_bodies
 use Rattle.types.specs.declared.ResponseBody as response_bodies
 use Rattle.types.specs.declared.Tar.{Tar}
 use Rattle.types.specs.declared.Clear.{Clear}
-use Rattle.types.specs.declared.ParsedCommand as parsed_command
-use Rattle.types.specs.declared.ParsedResponse as parsed_response
 use Rattle.types.specs.Refusals.{Outcome, refused, gives, refusal_number, told_written}
 use Rattle.packet.specs.Packets.{before, Parsed, plain_parsed, ciphered_parsed}
 use Rattle.packet.specs.Told.{command_fields, response_fields, told_command, told_response}
@@ -98,65 +96,65 @@ refusal_some SlotNumber = refl
 abbrev pub TellsNumber : Outcome ℕ → Type 0
 TellsNumber o = told_back (heard_number o).0 (heard_number o).1 ≡ o
 
-pub written_back : (w : written.Written) → TellsNumber (told_written w)
-written_back (written.TheVariants.Octets n) = refl
-written_back (written.TheVariants.Refused why) = rw (refusal_some why)
+pub written_back : (w : Result ℕ Refusal) → TellsNumber (told_written w)
+written_back (Ok n) = refl
+written_back (Err why) = rw (refusal_some why)
 
-pub beating_back : (b : beating.Beating) → TellsNumber (told_beating b)
-beating_back (beating.TheVariants.Dropped n) = refl
-beating_back (beating.TheVariants.Refused why) = rw (refusal_some why)
+pub beating_back : (b : Result ℕ Refusal) → TellsNumber (told_beating b)
+beating_back (Ok n) = refl
+beating_back (Err why) = rw (refusal_some why)
 
-pub making_back : (m : making.Making) → told_back (heard_nothing (told_making m)) tt ≡ told_making m
-making_back making.TheVariants.Fresh = refl
-making_back (making.TheVariants.Refused why) = rw (refusal_some why)
+pub making_back : (m : Result Unit Refusal) → told_back (heard_nothing (told_making m)) tt ≡ told_making m
+making_back (Ok tt) = refl
+making_back (Err why) = rw (refusal_some why)
 
-pub part_back_lem : (w : piece.WrittenPart) → told_back (heard_part (split.told w)).0 (part_back (heard_part (split.told w)).1) ≡ split.told w
-part_back_lem (piece.TheVariants.Part t n) = refl
-part_back_lem (piece.TheVariants.Refused why) = rw (refusal_some why)
+pub part_back_lem : (w : Result piece.WrittenPart Refusal) → told_back (heard_part (split.told w)).0 (part_back (heard_part (split.told w)).1) ≡ split.told w
+part_back_lem (Ok x) = refl
+part_back_lem (Err why) = rw (refusal_some why)
 
-pub arrival_back : (a : arrival.Arrival) → told_back (heard_brought (told_arrival a)).0 (brought_back (heard_brought (told_arrival a)).1) ≡ told_arrival a
-arrival_back (arrival.TheVariants.Single s) = refl
-arrival_back (arrival.TheVariants.Part k t n s) = refl
-arrival_back (arrival.TheVariants.Refused why) = rw (refusal_some why)
+pub arrival_back : (a : Result arrival.Arrival Refusal) → told_back (heard_brought (told_arrival a)).0 (brought_back (heard_brought (told_arrival a)).1) ≡ told_arrival a
+arrival_back (Ok (arrival.TheVariants.Single s)) = refl
+arrival_back (Ok (arrival.TheVariants.Part k t n s)) = refl
+arrival_back (Err why) = rw (refusal_some why)
 
 mark_back : (d : Bool) → eqb (cond d 1 0) 1 ≡ d
 mark_back true = refl
 mark_back false = refl
 
-pub answer_back : (a : answer.Answer) → taken_back (heard_taken (taking.told_answer a)).0 (heard_taken (taking.told_answer a)).1 ≡ taking.told_answer a
-answer_back (answer.TheVariants.Kept s d) = ap (taking.kept s) (mark_back d)
-answer_back (answer.TheVariants.HeldAlready s) = refl
-answer_back (answer.TheVariants.Packet n) = refl
-answer_back (answer.TheVariants.Refused why) = rw (refusal_some why)
+pub answer_back : (a : Result answer.Answer Refusal) → taken_back (heard_taken (taking.told_answer a)).0 (heard_taken (taking.told_answer a)).1 ≡ taking.told_answer a
+answer_back (Ok (answer.TheVariants.Kept s d)) = ap (taking.kept s) (mark_back d)
+answer_back (Ok (answer.TheVariants.HeldAlready s)) = refl
+answer_back (Ok (answer.TheVariants.Packet n)) = refl
+answer_back (Err why) = rw (refusal_some why)
 
 abbrev pub TellsParsed : Kind → Outcome Parsed → Type 0
 TellsParsed k o = told_back (heard_parsed k o).0 (parsed_back k (heard_parsed k o).1) ≡ o
 
-pub command_back : (a : parsed_command.ParsedCommand) → TellsParsed Command (told_command a)
-command_back (parsed_command.TheVariants.Fields c) = go c.clear c.body
+pub command_back : (a : Result parsed_command.Command Refusal) → TellsParsed Command (told_command a)
+command_back (Ok c) = go c.clear c.body
   where
     go : (x : Clear) (b : command_bodies.CommandBody) → TellsParsed Command (gives (command_fields x b))
     go x (command_bodies.TheVariants.Plain p) = refl
     go x (command_bodies.TheVariants.Ciphered o) = refl
-command_back (parsed_command.TheVariants.Refused why) = rw (refusal_some why)
+command_back (Err why) = rw (refusal_some why)
 
-pub response_back : (a : parsed_response.ParsedResponse) → TellsParsed Response (told_response a)
-response_back (parsed_response.TheVariants.Fields c) = go c.tar c.body
+pub response_back : (a : Result parsed_response.Response Refusal) → TellsParsed Response (told_response a)
+response_back (Ok c) = go c.tar c.body
   where
     go : (t : Tar) (b : response_bodies.ResponseBody) → TellsParsed Response (gives (response_fields t b))
     go t (response_bodies.TheVariants.Plain p) = refl
     go t (response_bodies.TheVariants.Ciphered o) = refl
-response_back (parsed_response.TheVariants.Refused why) = rw (refusal_some why)
+response_back (Err why) = rw (refusal_some why)
 
-pub going_back_lem : (o : outgoing.Outgoing) → told_back (heard_going (told_outgoing o)).0 (going_back (heard_going (told_outgoing o)).1) ≡ told_outgoing o
-going_back_lem outgoing.TheVariants.Nothing = refl
-going_back_lem (outgoing.TheVariants.Report n) = refl
-going_back_lem (outgoing.TheVariants.Announcement n) = refl
-going_back_lem outgoing.TheVariants.Submit = refl
-going_back_lem (outgoing.TheVariants.Refused why) = rw (refusal_some why)
+pub going_back_lem : (o : Result outgoing.Outgoing Refusal) → told_back (heard_going (told_outgoing o)).0 (going_back (heard_going (told_outgoing o)).1) ≡ told_outgoing o
+going_back_lem (Ok outgoing.TheVariants.Nothing) = refl
+going_back_lem (Ok (outgoing.TheVariants.Report n)) = refl
+going_back_lem (Ok (outgoing.TheVariants.Announcement n)) = refl
+going_back_lem (Ok outgoing.TheVariants.Submit) = refl
+going_back_lem (Err why) = rw (refusal_some why)
 
-pub announcing_back : (a : announcing.Announcing)
+pub announcing_back : (a : Result Bool Refusal)
     → told_back (heard_announcing (told_announcing a)).0 (eqb (heard_announcing (told_announcing a)).1 1) ≡ told_announcing a
-announcing_back announcing.TheVariants.Yes = refl
-announcing_back announcing.TheVariants.No = refl
-announcing_back (announcing.TheVariants.Refused why) = rw (refusal_some why)
+announcing_back (Ok true) = refl
+announcing_back (Ok false) = refl
+announcing_back (Err why) = rw (refusal_some why)

@@ -1,5 +1,7 @@
 -- What a caller in C hears of an outcome: the number that the call returns, and those that it puts into what the caller lent. They are 0 and what is
 -- given, or the number of the refusal and zeros. No refusal has the number 0.
+use Rattle.std.specs.declared.option.Option as option
+use Rattle.std.specs.declared.option.Option.TheVariants.{Some, None}
 use Rattle.std.specs.Prelude.{ℕ, ◌+◌, ◌-◌, Bool, cond, List, [], ◌∷◌, ◌++◌, length, replicate}
 use Rattle.types.specs.declared.Kind.{Kind}
 use Rattle.types.specs.Refusals.{Outcome, refused, gives, Lent}
@@ -12,7 +14,7 @@ use Rattle.card.specs.Card.{TakenState}
 use Rattle.report.specs.Reporting.{Going, nothing_goes, in_report, announced, submitted, Reported}
 use Rattle.types.specs.declared.SkippedRun.{SkippedRun}
 use Rattle.types.specs.declared.Captured.{Captured}
-use Rattle.types.specs.declared.Captured.TheVariants.{UserData, Page, Unsound}
+use Rattle.types.specs.declared.Captured.TheVariants.{UserData, Page}
 
 abbrev pub heard_as : {A B : Type 0} → (A → B) → B → Outcome A → ℕ × B
 heard_as numbers zeros (refused m) = (m, zeros)
@@ -110,7 +112,7 @@ abbrev pub heard_run : SkippedRun → ℕ × List ℕ
 heard_run x = (0, x.first ∷ x.count ∷ x.next ∷ [])
 
 -- 1 user data, 2 a page, and where its own octets begin; zeros if the octets are no sound record
-abbrev pub heard_captured : Captured → ℕ × List ℕ
-heard_captured (UserData start) = (0, 1 ∷ start ∷ [])
-heard_captured (Page start) = (0, 2 ∷ start ∷ [])
-heard_captured Unsound = (0, 0 ∷ 0 ∷ [])
+abbrev pub heard_captured : option.Option Captured → ℕ × List ℕ
+heard_captured (Some (UserData start)) = (0, 1 ∷ start ∷ [])
+heard_captured (Some (Page start)) = (0, 2 ∷ start ∷ [])
+heard_captured None = (0, 0 ∷ 0 ∷ [])

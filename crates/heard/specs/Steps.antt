@@ -1,17 +1,16 @@
 -- What the proofs of `heard` and `abi` cite, over plain variables. Of each sort of answer: what a known answer is heard as, and that its refusal is heard by its number.
+use Rattle.std.specs.declared.result.Result.{Result}
+use Rattle.std.specs.declared.option.Option as option
+use Rattle.std.specs.declared.result.Result.TheVariants.{Ok, Err}
 use Rattle.std.specs.Prelude.{ℕ, ◌+◌, ◌<◌, ◌≤◌, ◌≡◌, Bool, true, false, cond, List, [], ◌∷◌, ◌++◌, get_or, replicate}
 use Rattle.std.proofs.Common.{ap, ◌∙◌, rules, eq-eqb, ne_eqb, lt-ltb, le-ltb}
 use Rattle.types.specs.declared.Kind.{Kind}
 use Rattle.types.specs.declared.Kind.TheVariants.{Command, Response}
 use Rattle.types.specs.declared.Refusal.{Refusal}
-use Rattle.types.specs.declared.Written as written
 use Rattle.types.specs.declared.WrittenPart as part
 use Rattle.types.specs.declared.Arrival as arrival
 use Rattle.types.specs.declared.Answer as answer
-use Rattle.types.specs.declared.Beating as beating
-use Rattle.types.specs.declared.Making as making
 use Rattle.types.specs.declared.Outgoing as outgoing
-use Rattle.types.specs.declared.Announcing as announcing
 use Rattle.types.specs.declared.Captured.{Captured}
 use Rattle.types.specs.declared.SkippedRun.{SkippedRun}
 use Rattle.types.specs.declared.Clear.{Clear}
@@ -21,13 +20,9 @@ use Rattle.types.specs.declared.Tar.{Tar}
 use Rattle.types.specs.declared.Cntr.{Cntr}
 use Rattle.types.specs.declared.Command as commands
 use Rattle.types.specs.declared.Response as responses
-use Rattle.types.specs.declared.ParsedCommand as command
-use Rattle.types.specs.declared.ParsedResponse as response
 use Rattle.types.specs.Refusals.{Outcome, gives, refusal_number, Lent, told_written}
 use Rattle.packet.specs.Told.{tar_octets, clear_octets, counter_octets, command_fixed, response_fixed, command_fields, response_fields, told_command, told_response}
 use Rattle.packet.specs.Packets.{before, chl, Fields, plain, ciphered, fields_of, readable, Parsed, built}
-use Rattle.packet.specs.declared.read.Judged.{Judged}
-use Rattle.packet.specs.declared.read.Judged.TheVariants as judged
 use Rattle.packet.specs.Judging.{told_judged, judged_refused, judged_readable}
 use Rattle.arrival.specs.Arrivals.{Brought, told_arrival}
 use Rattle.split.specs.Splitting as split
@@ -76,31 +71,31 @@ pub ciphered_same : (f g : List ℕ) (header : ℕ) (opaque : List ℕ) → f �
 ciphered_same f g header opaque e = rw e
 
 -- ---- an answer that is known
-pub written_known : (x v : written.Written) (p : ℕ × ℕ) → x ≡ v → p ≡ heard_number (told_written v) → p ≡ heard_number (told_written x)
+pub written_known : (x v : Result ℕ Refusal) (p : ℕ × ℕ) → x ≡ v → p ≡ heard_number (told_written v) → p ≡ heard_number (told_written x)
 written_known x v p e f = rw e f
 
-pub part_known : (x v : part.WrittenPart) (p : ℕ × List ℕ) → x ≡ v → p ≡ heard_part (split.told v) → p ≡ heard_part (split.told x)
+pub part_known : (x v : Result part.WrittenPart Refusal) (p : ℕ × List ℕ) → x ≡ v → p ≡ heard_part (split.told v) → p ≡ heard_part (split.told x)
 part_known x v p e f = rw e f
 
-pub arrival_known : (x v : arrival.Arrival) (p : ℕ × List ℕ) → x ≡ v → p ≡ heard_brought (told_arrival v) → p ≡ heard_brought (told_arrival x)
+pub arrival_known : (x v : Result arrival.Arrival Refusal) (p : ℕ × List ℕ) → x ≡ v → p ≡ heard_brought (told_arrival v) → p ≡ heard_brought (told_arrival x)
 arrival_known x v p e f = rw e f
 
-pub answer_known : (x v : answer.Answer) (p : ℕ × List ℕ) → x ≡ v → p ≡ heard_taken (told_answer v) → p ≡ heard_taken (told_answer x)
+pub answer_known : (x v : Result answer.Answer Refusal) (p : ℕ × List ℕ) → x ≡ v → p ≡ heard_taken (told_answer v) → p ≡ heard_taken (told_answer x)
 answer_known x v p e f = rw e f
 
-pub beating_known : (x v : beating.Beating) (p : ℕ × ℕ) → x ≡ v → p ≡ heard_number (told_beating v) → p ≡ heard_number (told_beating x)
+pub beating_known : (x v : Result ℕ Refusal) (p : ℕ × ℕ) → x ≡ v → p ≡ heard_number (told_beating v) → p ≡ heard_number (told_beating x)
 beating_known x v p e f = rw e f
 
-pub making_known : (x v : making.Making) (n : ℕ) → x ≡ v → n ≡ heard_nothing (told_making v) → n ≡ heard_nothing (told_making x)
+pub making_known : (x v : Result Unit Refusal) (n : ℕ) → x ≡ v → n ≡ heard_nothing (told_making v) → n ≡ heard_nothing (told_making x)
 making_known x v n e f = rw e f
 
-pub going_known : (x v : outgoing.Outgoing) (p : ℕ × List ℕ) → x ≡ v → p ≡ heard_going (told_outgoing v) → p ≡ heard_going (told_outgoing x)
+pub going_known : (x v : Result outgoing.Outgoing Refusal) (p : ℕ × List ℕ) → x ≡ v → p ≡ heard_going (told_outgoing v) → p ≡ heard_going (told_outgoing x)
 going_known x v p e f = rw e f
 
-pub announcing_known : (x v : announcing.Announcing) (p : ℕ × ℕ) → x ≡ v → p ≡ heard_announcing (told_announcing v) → p ≡ heard_announcing (told_announcing x)
+pub announcing_known : (x v : Result Bool Refusal) (p : ℕ × ℕ) → x ≡ v → p ≡ heard_announcing (told_announcing v) → p ≡ heard_announcing (told_announcing x)
 announcing_known x v p e f = rw e f
 
-pub captured_known : (x v : Captured) (p : ℕ × List ℕ) → x ≡ v → p ≡ heard_captured v → p ≡ heard_captured x
+pub captured_known : (x v : option.Option Captured) (p : ℕ × List ℕ) → x ≡ v → p ≡ heard_captured v → p ≡ heard_captured x
 captured_known x v p e f = rw e f
 
 pub command_known : (c : Clear) (x v : CommandBody) (p : List ℕ × List ℕ) → x ≡ v → p ≡ numbers_heard Command (command_fields c v)
@@ -111,15 +106,15 @@ pub response_known : (t : Tar) (x v : ResponseBody) (p : List ℕ × List ℕ) �
     → p ≡ numbers_heard Response (response_fields t x)
 response_known t x v p e f = rw e f
 
-pub answer_kept : (x : answer.Answer) (slot n : ℕ) (d : Bool) → x ≡ answer.TheVariants.Kept slot d → n ≡ cond d 1 0
+pub answer_kept : (x : Result answer.Answer Refusal) (slot n : ℕ) (d : Bool) → x ≡ Ok (answer.TheVariants.Kept slot d) → n ≡ cond d 1 0
     → (0, 1 ∷ slot ∷ n ∷ 0 ∷ []) ≡ heard_taken (told_answer x)
 answer_kept x slot n d e f = rw (e, f)
 
-pub command_fields_lem : (x : command.ParsedCommand) (c : commands.Command) (p : List ℕ × List ℕ) → x ≡ command.TheVariants.Fields c
+pub command_fields_lem : (x : Result commands.Command Refusal) (c : commands.Command) (p : List ℕ × List ℕ) → x ≡ Ok c
     → p ≡ numbers_heard Command (command_fields c.clear c.body) → (0, p) ≡ heard_parsed Command (told_command x)
 command_fields_lem x c p e f = rw (e, f)
 
-pub response_fields_lem : (x : response.ParsedResponse) (c : responses.Response) (p : List ℕ × List ℕ) → x ≡ response.TheVariants.Fields c
+pub response_fields_lem : (x : Result responses.Response Refusal) (c : responses.Response) (p : List ℕ × List ℕ) → x ≡ Ok c
     → p ≡ numbers_heard Response (response_fields c.tar c.body) → (0, p) ≡ heard_parsed Response (told_response x)
 response_fields_lem x c p e f = rw (e, f)
 
@@ -133,44 +128,44 @@ places_opaque k c p l e f = rw e f
 pub places_plain : (k : Kind) (c : Bool) (p l : List ℕ) → c ≡ false → l ≡ places_of k 3 (chl p) (fields_of k false p) → l ≡ places_of k 3 (chl p) (fields_of k c p)
 places_plain k c p l e f = rw e f
 
-module _ (k : Kind) (c : Bool) (p : List ℕ) (j : Judged) (e : told_judged j ≡ readable k c p (gives (chl p))) where
-  pub places_refused : (why : Refusal) (r : ℕ) → j ≡ judged.Refused why → r ≡ refusal_number why → (r, replicate 6 0) ≡ heard_places k c p
+module _ (k : Kind) (c : Bool) (p : List ℕ) (j : Result ℕ Refusal) (e : told_judged j ≡ readable k c p (gives (chl p))) where
+  pub places_refused : (why : Refusal) (r : ℕ) → j ≡ Err why → r ≡ refusal_number why → (r, replicate 6 0) ≡ heard_places k c p
   places_refused why r t n = rw (← judged_refused k c p j e why t (gives (fields_of k c p)), n)
 
-  pub places_shown : (h : ℕ) (l : List ℕ) → j ≡ judged.Readable h → l ≡ places_of k 3 (chl p) (fields_of k c p) → (0, l) ≡ heard_places k c p
+  pub places_shown : (h : ℕ) (l : List ℕ) → j ≡ Ok h → l ≡ places_of k 3 (chl p) (fields_of k c p) → (0, l) ≡ heard_places k c p
   places_shown h l t f = rw (← judged_readable k c p j e h t (gives (fields_of k c p)), f)
 
 -- ---- a refusal
 module _ (why : Refusal) (r : ℕ) (n : r ≡ refusal_number why) where
-  pub written_refused : (x : written.Written) → x ≡ written.TheVariants.Refused why → (r, 0) ≡ heard_number (told_written x)
+  pub written_refused : (x : Result ℕ Refusal) → x ≡ Err why → (r, 0) ≡ heard_number (told_written x)
   written_refused x e = rw (e, n)
 
-  pub part_refused : (x : part.WrittenPart) → x ≡ part.TheVariants.Refused why → (r, replicate 2 0) ≡ heard_part (split.told x)
+  pub part_refused : (x : Result part.WrittenPart Refusal) → x ≡ Err why → (r, replicate 2 0) ≡ heard_part (split.told x)
   part_refused x e = rw (e, n)
 
-  pub arrival_refused : (x : arrival.Arrival) → x ≡ arrival.TheVariants.Refused why → (r, replicate 9 0) ≡ heard_brought (told_arrival x)
+  pub arrival_refused : (x : Result arrival.Arrival Refusal) → x ≡ Err why → (r, replicate 9 0) ≡ heard_brought (told_arrival x)
   arrival_refused x e = rw (e, n)
 
-  pub answer_refused : (x : answer.Answer) → x ≡ answer.TheVariants.Refused why → (r, replicate 4 0) ≡ heard_taken (told_answer x)
+  pub answer_refused : (x : Result answer.Answer Refusal) → x ≡ Err why → (r, replicate 4 0) ≡ heard_taken (told_answer x)
   answer_refused x e = rw (e, n)
 
-  pub beating_refused : (x : beating.Beating) → x ≡ beating.TheVariants.Refused why → (r, 0) ≡ heard_number (told_beating x)
+  pub beating_refused : (x : Result ℕ Refusal) → x ≡ Err why → (r, 0) ≡ heard_number (told_beating x)
   beating_refused x e = rw (e, n)
 
-  pub making_refused : (x : making.Making) → x ≡ making.TheVariants.Refused why → r ≡ heard_nothing (told_making x)
+  pub making_refused : (x : Result Unit Refusal) → x ≡ Err why → r ≡ heard_nothing (told_making x)
   making_refused x e = rw (e, n)
 
-  pub going_refused : (x : outgoing.Outgoing) → x ≡ outgoing.TheVariants.Refused why → (r, replicate 2 0) ≡ heard_going (told_outgoing x)
+  pub going_refused : (x : Result outgoing.Outgoing Refusal) → x ≡ Err why → (r, replicate 2 0) ≡ heard_going (told_outgoing x)
   going_refused x e = rw (e, n)
 
-  pub announcing_refused : (x : announcing.Announcing) → x ≡ announcing.TheVariants.Refused why → (r, 0) ≡ heard_announcing (told_announcing x)
+  pub announcing_refused : (x : Result Bool Refusal) → x ≡ Err why → (r, 0) ≡ heard_announcing (told_announcing x)
   announcing_refused x e = rw (e, n)
 
-  pub command_refused : (x : command.ParsedCommand) → x ≡ command.TheVariants.Refused why
+  pub command_refused : (x : Result commands.Command Refusal) → x ≡ Err why
       → (r, (replicate 13 0, replicate 3 0)) ≡ heard_parsed Command (told_command x)
   command_refused x e = rw (e, n)
 
-  pub response_refused : (x : response.ParsedResponse) → x ≡ response.TheVariants.Refused why
+  pub response_refused : (x : Result responses.Response Refusal) → x ≡ Err why
       → (r, (replicate 10 0, replicate 3 0)) ≡ heard_parsed Response (told_response x)
   response_refused x e = rw (e, n)
 
@@ -201,7 +196,7 @@ announcing_heard o x p e f = rw (← f) e
 pub parsed_heard : (k : Kind) (o x : Outcome Parsed) (p : ℕ × (List ℕ × List ℕ)) → p ≡ heard_parsed k o → o ≡ x → p ≡ heard_parsed k x
 parsed_heard k o x p e f = rw (← f) e
 
-pub captured_heard : (x y : Captured) (p : ℕ × List ℕ) → p ≡ heard_captured x → x ≡ y → p ≡ heard_captured y
+pub captured_heard : (x y : option.Option Captured) (p : ℕ × List ℕ) → p ≡ heard_captured x → x ≡ y → p ≡ heard_captured y
 captured_heard x y p e f = rw (← f) e
 
 pub test_heard : (m r : ℕ) (b c : Bool) → r ≡ heard_test m b → b ≡ c → r ≡ heard_test m c

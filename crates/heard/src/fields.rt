@@ -6,8 +6,7 @@ ghost use Rattle.heard.specs.Heard.{numbers_heard, heard_parsed};
 
 use crate::{COMMAND_FIELDS, RESPONSE_FIELDS, hear};
 use types::{
-    Clear, Command, CommandBody, Kind, Opaque, ParsedCommand, ParsedResponse, PlainCommand,
-    Response, ResponseBody,
+    Clear, Command, CommandBody, Kind, Opaque, PlainCommand, Refusal, Response, ResponseBody,
 };
 
 // The fields up to the check field, and what the body is: of a plain command, of a ciphered one, of either, and of a response.
@@ -75,15 +74,19 @@ fn put_response(c: Response, fields: &mut [u8; RESPONSE_FIELDS], body: &mut [usi
 }
 
 // What reading a command answers.
-pub fn command(a: ParsedCommand, fields: &mut [u8; COMMAND_FIELDS], body: &mut [usize; 3]) -> u32
+pub fn command(
+    a: Result<Command, Refusal>,
+    fields: &mut [u8; COMMAND_FIELDS],
+    body: &mut [usize; 3],
+) -> u32
     ensures { (result, (fields.new, body.new)) ≡ heard_parsed Kind.Command (told_command a) }
 {
     match a {
-        ParsedCommand::Fields(c) => {
+        Ok(c) => {
             put_command(c, fields, body);
             0
         }
-        ParsedCommand::Refused(why) => {
+        Err(why) => {
             *fields = [0; COMMAND_FIELDS];
             *body = [0, 0, 0];
             hear::refusal(why)
@@ -92,15 +95,19 @@ pub fn command(a: ParsedCommand, fields: &mut [u8; COMMAND_FIELDS], body: &mut [
 }
 
 // What reading a response answers.
-pub fn response(a: ParsedResponse, fields: &mut [u8; RESPONSE_FIELDS], body: &mut [usize; 3]) -> u32
+pub fn response(
+    a: Result<Response, Refusal>,
+    fields: &mut [u8; RESPONSE_FIELDS],
+    body: &mut [usize; 3],
+) -> u32
     ensures { (result, (fields.new, body.new)) ≡ heard_parsed Kind.Response (told_response a) }
 {
     match a {
-        ParsedResponse::Fields(c) => {
+        Ok(c) => {
             put_response(c, fields, body);
             0
         }
-        ParsedResponse::Refused(why) => {
+        Err(why) => {
             *fields = [0; RESPONSE_FIELDS];
             *body = [0, 0, 0];
             hear::refusal(why)

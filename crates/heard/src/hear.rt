@@ -8,7 +8,7 @@ ghost use Rattle.beats.specs.Beats.{told_beating};
 ghost use Rattle.slots.specs.Slots.{told_making};
 ghost use Rattle.split.specs.Splitting.{told};
 
-use types::{Answer, Arrival, Beating, Making, Refusal, Written, WrittenPart};
+use types::{Answer, Arrival, Refusal, WrittenPart};
 
 pub fn refusal(why: Refusal) -> u32
     ensures { result ≡ refusal_number why }
@@ -37,15 +37,15 @@ fn mark(b: bool) -> usize
 }
 
 // How many octets were written.
-pub fn written(w: Written, length: &mut usize) -> u32
+pub fn written(w: Result<usize, Refusal>, length: &mut usize) -> u32
     ensures { (result, length.new) ≡ heard_number (told_written w) }
 {
     match w {
-        Written::Octets(n) => {
+        Ok(n) => {
             *length = n;
             0
         }
-        Written::Refused(why) => {
+        Err(why) => {
             *length = 0;
             refusal(why)
         }
@@ -53,15 +53,15 @@ pub fn written(w: Written, length: &mut usize) -> u32
 }
 
 // How many parts there are, and how many octets were written.
-pub fn part(w: WrittenPart, part: &mut [usize; 2]) -> u32
+pub fn part(w: Result<WrittenPart, Refusal>, part: &mut [usize; 2]) -> u32
     ensures { (result, part.new) ≡ heard_part (told w) }
 {
     match w {
-        WrittenPart::Part { total, length } => {
+        Ok(WrittenPart { total, length }) => {
             *part = [total, length];
             0
         }
-        WrittenPart::Refused(why) => {
+        Err(why) => {
             *part = [0, 0];
             refusal(why)
         }
@@ -69,20 +69,22 @@ pub fn part(w: WrittenPart, part: &mut [usize; 2]) -> u32
 }
 
 // What a message or a page brings.
-pub fn arrival(a: Arrival, brought: &mut [usize; 9]) -> u32
+pub fn arrival(a: Result<Arrival, Refusal>, brought: &mut [usize; 9]) -> u32
     ensures { (result, brought.new) ≡ heard_brought (told_arrival a) }
 {
     match a {
-        Arrival::Single { start } => {
+        Ok(Arrival::Single { start }) => {
             *brought = [1, start, 0, 0, 0, 0, 0, 0, 0];
             0
         }
-        Arrival::Part {
-            key,
-            total,
-            number,
-            start,
-        } => {
+        Ok(
+            Arrival::Part {
+                key,
+                total,
+                number,
+                start,
+            },
+        ) => {
             *brought = [
                 2,
                 start,
@@ -96,7 +98,7 @@ pub fn arrival(a: Arrival, brought: &mut [usize; 9]) -> u32
             ];
             0
         }
-        Arrival::Refused(why) => {
+        Err(why) => {
             *brought = [0, 0, 0, 0, 0, 0, 0, 0, 0];
             refusal(why)
         }
@@ -104,23 +106,23 @@ pub fn arrival(a: Arrival, brought: &mut [usize; 9]) -> u32
 }
 
 // What taking a message or a page comes to.
-pub fn answer(a: Answer, taken: &mut [usize; 4]) -> u32
+pub fn answer(a: Result<Answer, Refusal>, taken: &mut [usize; 4]) -> u32
     ensures { (result, taken.new) ≡ heard_taken (told_answer a) }
 {
     match a {
-        Answer::Kept { slot, displaced } => {
+        Ok(Answer::Kept { slot, displaced }) => {
             *taken = [1, slot, mark(displaced), 0];
             0
         }
-        Answer::HeldAlready { slot } => {
+        Ok(Answer::HeldAlready { slot }) => {
             *taken = [2, slot, 0, 0];
             0
         }
-        Answer::Packet { length } => {
+        Ok(Answer::Packet { length }) => {
             *taken = [3, 0, 0, length];
             0
         }
-        Answer::Refused(why) => {
+        Err(why) => {
             *taken = [0, 0, 0, 0];
             refusal(why)
         }
@@ -128,15 +130,15 @@ pub fn answer(a: Answer, taken: &mut [usize; 4]) -> u32
 }
 
 // How many series a beat dropped.
-pub fn beating(b: Beating, dropped: &mut usize) -> u32
+pub fn beating(b: Result<u8, Refusal>, dropped: &mut usize) -> u32
     ensures { (result, dropped.new) ≡ heard_number (told_beating b) }
 {
     match b {
-        Beating::Dropped(n) => {
+        Ok(n) => {
             *dropped = n as usize;
             0
         }
-        Beating::Refused(why) => {
+        Err(why) => {
             *dropped = 0;
             refusal(why)
         }
@@ -144,11 +146,11 @@ pub fn beating(b: Beating, dropped: &mut usize) -> u32
 }
 
 // Whether a state was made.
-pub fn making(m: Making) -> u32
+pub fn making(m: Result<(), Refusal>) -> u32
     ensures { result ≡ heard_nothing (told_making m) }
 {
     match m {
-        Making::Fresh => 0,
-        Making::Refused(why) => refusal(why),
+        Ok(()) => 0,
+        Err(why) => refusal(why),
     }
 }

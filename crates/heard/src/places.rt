@@ -4,7 +4,6 @@ ghost use Rattle.packet.specs.Packets.{before, chl, fields_of};
 ghost use Rattle.heard.specs.Heard.{places_of, heard_places};
 
 use crate::hear;
-use packet::read::Judged;
 use packet::{behind, read};
 use types::Kind;
 
@@ -68,11 +67,11 @@ pub fn shown(kind: Kind, ciphered: bool, packet: &[u8], places: &mut [usize; 6])
 {
     let judged = read::judge(kind, ciphered, packet);
     match judged {
-        Judged::Refused(why) => {
+        Err(why) => {
             *places = [0, 0, 0, 0, 0, 0];
             hear::refusal(why)
         }
-        Judged::Readable(_) => {
+        Ok(_) => {
             put_places(kind, ciphered, packet, places);
             0
         }

@@ -21,8 +21,8 @@ pub use packet::show::{
     command_check, command_data, command_opaque, response_check, response_data, response_opaque,
 };
 pub use types::{
-    Clear, Cntr, Command, CommandBody, Kind, Opaque, ParsedCommand, ParsedResponse, PlainCommand,
-    PlainResponse, Refusal, Response, ResponseBody, Spi, Tar, Written,
+    Clear, Cntr, Command, CommandBody, Kind, Opaque, PlainCommand, PlainResponse, Refusal,
+    Response, ResponseBody, Spi, Tar,
 };
 
 // USSD strings: a command read, shown and written, the octets of its checksum, and the data coding scheme that it comes with.
@@ -33,7 +33,7 @@ pub use ussd_write::{write_ciphered_ussd, write_ussd};
 
 // Counters: the counter of a command, judged against the one that is stored.
 pub use counters::{judge_counter, no_counters};
-pub use types::{CounterEntry, Counters, JudgedCounter, Judgement};
+pub use types::{CounterEntry, Counters, JudgedCounter};
 
 // Arrivals: what one message or page brings.
 pub use arrival::message::read_message;
@@ -46,7 +46,7 @@ pub use beats::beat;
 pub use formed::record_formed;
 pub use series::take::{take_message, take_page};
 pub use slots::find::{fresh as fresh_record, fresh_with as fresh_record_with};
-pub use types::{Answer, Beaten, Beating, Made, Making, Record, Slot, Taken};
+pub use types::{Answer, Beaten, Made, Record, Slot, Taken};
 
 // The same in place, on the octets of a state that the caller lends: for a card. The record that a state holds, and a record written as a state.
 pub use card::{take_message as state_take_message, take_page as state_take_page};
@@ -69,11 +69,11 @@ pub use types::WrittenPart;
 
 // Reporting: what goes out of a response, the delivery report, the editions, and whether a response says that another follows.
 pub use report::{response_announces, write_report};
-pub use types::{Announcing, OLD_EDITION, Outgoing, PRESENT_EDITION};
+pub use types::{OLD_EDITION, Outgoing, PRESENT_EDITION};
 
 // Outstanding commands, server side: which commands were sent, and which of them a response closes.
 pub use gateway::{command_sent, no_commands, response_came};
-pub use types::{AfterResponse, AfterSending, Closing, Outstanding, Sending, SentCommand};
+pub use types::{AfterResponse, AfterSending, Closing, Outstanding, SentCommand};
 
 // Captures: what is sound of one, the runs that are skipped, and one record by itself.
 pub use capture::{next_skipped, read_captured, salvage};

@@ -1,8 +1,9 @@
 -- Salvaging a capture (02, [14]): for every file, what is copied of it, what is skipped, and how the two make up the file. A record is written out
 -- here octet by octet, without the tests by which it is found.
+use Rattle.std.specs.declared.option.Option.TheVariants.{Some, None}
 use Rattle.std.specs.Prelude.{ℕ, ◌+◌, ◌≤◌, ◌<◌, ◌≡◌, true, List, [], ◌∷◌, ◌++◌, ◌⊎◌, length, drop, replicate}
 use Rattle.types.specs.declared.SkippedRun.{SkippedRun}
-use Rattle.types.specs.declared.Captured.TheVariants.{UserData, Page, Unsound}
+use Rattle.types.specs.declared.Captured.TheVariants.{UserData, Page}
 use Rattle.types.specs.Refusals.{lent, refused, gives}
 use Rattle.capture.specs.Captures.{sound, salvaged, next_run, most_capture, salvaging, record_in}
 use Rattle.sequences.specs.Lists.{concat}
@@ -86,9 +87,9 @@ FromPosition = (file : List ℕ) (at : ℕ) → next_run file at ≡ run_of (at 
 
 -- one record by itself: its kind, and where its own octets begin; nothing else is a record
 pub record ByItself : Type 0 where
-  pub user_data_lem : (own : List ℕ) → length own ≤ 140 → record_in (0xA5 ∷ 0x5A ∷ 1 ∷ length own ∷ own) ≡ UserData 4
-  pub page : (own : List ℕ) → length own ≡ 88 → record_in (0xA5 ∷ 0x5A ∷ 2 ∷ 88 ∷ own) ≡ Page 4
-  pub other : (o : List ℕ) → (CaptureRecord o → ⊥) → record_in o ≡ Unsound
+  pub user_data_lem : (own : List ℕ) → length own ≤ 140 → record_in (0xA5 ∷ 0x5A ∷ 1 ∷ length own ∷ own) ≡ Some (UserData 4)
+  pub page : (own : List ℕ) → length own ≡ 88 → record_in (0xA5 ∷ 0x5A ∷ 2 ∷ 88 ∷ own) ≡ Some (Page 4)
+  pub other : (o : List ℕ) → (CaptureRecord o → ⊥) → record_in o ≡ None
 
 -- "24 for a longer one, then 1 for an output buffer not of the file's length, whose rest stays"
 pub record SalvagesOrRefuses (file output : List ℕ) : Type 0 where

@@ -1,5 +1,6 @@
 -- Demand 2: "Building then reading gives the same fields, and reading then building the same octets", "over packets that pass" (02, [3]); and
 -- what is split, every reader of 01 puts together again.
+use Rattle.std.specs.declared.result.Result.TheVariants.{Ok}
 use Rattle.std.specs.Prelude.{ℕ, ◌+◌, ◌-◌, ◌*◌, ◌≤◌, ◌<◌, ◌≡◌, Bool, true, false, List, ◌∷◌, ◌++◌, length, drop, replicate}
 use Rattle.octets.specs.Joined.{joined}
 use Rattle.octets.specs.Octets.{Octets, pair_of}
@@ -16,8 +17,6 @@ use Rattle.types.specs.declared.CommandBody.TheVariants as command
 use Rattle.types.specs.declared.ResponseBody.TheVariants as response
 use Rattle.types.specs.declared.Command as commands
 use Rattle.types.specs.declared.Response as responses
-use Rattle.types.specs.declared.ParsedCommand.TheVariants as parsed_command
-use Rattle.types.specs.declared.ParsedResponse.TheVariants as parsed_response
 use Rattle.types.specs.Refusals.{gives, refused, writes}
 use Rattle.packet.specs.Packets.{least, most_octets, well_formed, Fields, plain, ciphered, fields_of, ciphered_command, is_ciphered, measured, parsing, secured_of, check_of, opaque_of, shown_data, shown_check, shown_opaque, against_spi, against_check, misfit, packet_of, Parsed, plain_parsed, ciphered_parsed, building, built, fixed_octets, checksum_octets}
 use Rattle.packet.specs.Told.{tar_octets, clear_octets, command_fixed, response_fixed, told_command, told_response}
@@ -69,14 +68,14 @@ AnswersBuild =
 
 -- The same by the names of the calls: parse, show, and build into any buffer of 2,142 octets; the packet stands at its start.
 pub record CallsBuild (p buffer : List ℕ) : Type 0 where
-  pub build_command : (x : commands.Command) (b : PlainCommand) → told_command (parsed_command.Fields x) ≡ parsing Command (ciphered_command p) p → x.body ≡ command.Plain b
+  pub build_command : (x : commands.Command) (b : PlainCommand) → told_command (Ok x) ≡ parsing Command (ciphered_command p) p → x.body ≡ command.Plain b
       → built Command (plain (command_fixed x.clear b.cntr b.pcntr) (shown_check Command (ciphered_command p) p) (shown_data Command (ciphered_command p) p)) buffer
       ≡ writes (gives p) buffer
-  pub build_ciphered_command : (x : commands.Command) (b : Opaque) → told_command (parsed_command.Fields x) ≡ parsing Command (ciphered_command p) p → x.body ≡ command.Ciphered b
+  pub build_ciphered_command : (x : commands.Command) (b : Opaque) → told_command (Ok x) ≡ parsing Command (ciphered_command p) p → x.body ≡ command.Ciphered b
       → built Command (ciphered (clear_octets x.clear) b.header_length (shown_opaque Command (ciphered_command p) p)) buffer ≡ writes (gives p) buffer
-  pub build_response : (x : responses.Response) (b : PlainResponse) (c : Bool) → told_response (parsed_response.Fields x) ≡ parsing Response c p → x.body ≡ response.Plain b
+  pub build_response : (x : responses.Response) (b : PlainResponse) (c : Bool) → told_response (Ok x) ≡ parsing Response c p → x.body ≡ response.Plain b
       → built Response (plain (response_fixed x.tar b.cntr b.pcntr b.status) (shown_check Response c p) (shown_data Response c p)) buffer ≡ writes (gives p) buffer
-  pub build_ciphered_response : (x : responses.Response) (b : Opaque) (c : Bool) → told_response (parsed_response.Fields x) ≡ parsing Response c p → x.body ≡ response.Ciphered b
+  pub build_ciphered_response : (x : responses.Response) (b : Opaque) (c : Bool) → told_response (Ok x) ≡ parsing Response c p → x.body ≡ response.Ciphered b
       → built Response (ciphered (tar_octets x.tar) b.header_length (shown_opaque Response c p)) buffer ≡ writes (gives p) buffer
 
 abbrev pub ReadThenBuildCalls : Type 0

@@ -1,4 +1,5 @@
 -- Single USSD messages (02, [7]): lengths coded and decoded, each refusal on its condition, and the round trips of strings.
+use Rattle.std.specs.declared.result.Result.TheVariants.{Ok}
 use Rattle.std.specs.Prelude.{ℕ, ◌+◌, ◌≤◌, ◌<◌, ◌≡◌, true, false, List, [], ◌∷◌, ◌++◌, length, drop, replicate}
 use Rattle.octets.specs.Octets.{Octets}
 use Rattle.types.specs.declared.Kind.TheVariants.{Command}
@@ -6,7 +7,6 @@ use Rattle.types.specs.declared.Opaque.{Opaque}
 use Rattle.types.specs.declared.PlainCommand.{PlainCommand}
 use Rattle.types.specs.declared.CommandBody.TheVariants as command
 use Rattle.types.specs.declared.Command as commands
-use Rattle.types.specs.declared.ParsedCommand.TheVariants as parsed_command
 use Rattle.types.specs.Refusals.{Outcome, refused, gives, writes}
 use Rattle.packet.specs.Packets.{Fields, plain, ciphered, against_check, against_spi, misfit, Parsed, plain_parsed, measured, secured_of, check_of, opaque_of, runs_from}
 use Rattle.packet.specs.Told.{clear_octets, command_fixed, told_command}
@@ -91,9 +91,9 @@ ReadThenWrite =
 
 -- the same by the names of the calls: read, show, and write into any buffer of 160 octets; the string stands at its start
 pub record CallsWrite (pfi dcs : ℕ) (s buffer : List ℕ) : Type 0 where
-  pub write_ussd : (x : commands.Command) (b : PlainCommand) → told_command (parsed_command.Fields x) ≡ read_ussd pfi dcs s → x.body ≡ command.Plain b
+  pub write_ussd : (x : commands.Command) (b : PlainCommand) → told_command (Ok x) ≡ read_ussd pfi dcs s → x.body ≡ command.Plain b
       → written_ussd pfi (plain (command_fixed x.clear b.cntr b.pcntr) (shown_ussd_check pfi dcs s) (shown_ussd_data pfi dcs s)) buffer ≡ writes (gives s) buffer
-  pub write_ciphered_ussd : (x : commands.Command) (b : Opaque) → told_command (parsed_command.Fields x) ≡ read_ussd pfi dcs s → x.body ≡ command.Ciphered b
+  pub write_ciphered_ussd : (x : commands.Command) (b : Opaque) → told_command (Ok x) ≡ read_ussd pfi dcs s → x.body ≡ command.Ciphered b
       → written_ussd pfi (ciphered (clear_octets x.clear) b.header_length (shown_ussd_opaque pfi dcs s)) buffer ≡ writes (gives s) buffer
 
 abbrev pub ReadThenWriteCalls : Type 0

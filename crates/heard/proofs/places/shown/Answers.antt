@@ -2,5 +2,5 @@
 use Rattle.heard.specs.Steps.{steps}
 use Rattle.heard.proofs.places.shown.Goals as goal
 
-pub returns-in-Refused : goal.returns-in-Refused
-returns-in-Refused c = search steps
+pub returns-in-Err : goal.returns-in-Err
+returns-in-Err c = search steps
