@@ -1,56 +1,76 @@
 -- What the proofs of `words` cite: one law for each return and turn of a loop, over plain variables.
-use Prim.Native.Nat.{ℕ, zero, suc, ◌+◌, ◌-◌, ◌*◌, ◌/◌, ◌%◌, ◌≤◌, ◌<◌}
+use Prim.Native.Nat.{ℕ, suc, ◌+◌, ◌-◌, ◌*◌, ◌/◌, ◌%◌, ◌≤◌, ◌<◌}
 use mathlib.Core.Path.{◌≡◌, refl, sym, ap, ◌∙◌, subst}
 use mathlib.Core.Bool.{Bool, true, false, not, cond, ◌&&◌, ◌||◌}
-use mathlib.Core.List.{List, [], ◌∷◌, ◌++◌, append_assoc, append-nil}
+use mathlib.Core.List.{List, [], ◌∷◌, ◌++◌, map, append_assoc, append-nil}
 use native.Mathlib.Omega.{arith}
-use native.Mathlib.Nat.{add-zero}
-use native.Mathlib.Numerals.{add-one}
-use lib.ListN.{length, take, drop, get_or, set, length-drop, length-set, length-append, drop_of_length-le}
-use lib.Seq.{drop-cons, take-suc-set, drop-set-lt, length-take-le}
-use lib.Dec.{eqb, leb}
+use native.Mathlib.Nat.{add-zero, zero-add}
+use native.Mathlib.Numerals.{add-one, one-add}
+use Rattle.std.specs.declared.option.Option as option
+use Rattle.std.specs.declared.option.Option.TheVariants.{Some, None}
+use Rattle.std.specs.List.{position, position_or_len, prefix_len}
+use Rattle.std.specs.Option.{unwrap_or}
+use Rattle.words.specs.declared.table.TheConstants.{ROWS}
+use Rattle.words.specs.declared.table.Row.{Row}
+use Rattle.words.specs.Letters.{letters}
+use Rattle.std.proofs.lemmas.List.{get_or-map}
+use Prim.Native.Nat.compare.{suc-suc}
+use lib.ListN.{length, take, drop, get_or, set, length-drop, length-set, drop_of_length-le}
+use lib.Seq.{drop-cons, drop-length, drop-drop, take-suc-set, drop-set-lt, take_all}
+use lib.Dec.{eqb, leb, ltb}
 use borrow.Author.Rules.{rules}
-use borrow.Author.Tests.{le-leb, lt-leb, eq-eqb, ne_eqb, leb-true, not-true, not-false}
-use Rattle.octets.specs.Tests.{both, clash}
+use borrow.Author.Tests.{le-leb, lt-leb, eq-eqb, ne_eqb, leb-true, leb-false, lt-ltb, ltb-true, ltb-false, eqb-true, not-true, not-false}
+use Rattle.octets.specs.Tests.{both}
 use Rattle.words.specs.declared.Pairs.{Pairs}
-use Rattle.words.specs.Words.{is_blank, skipped, ended, is_empty, between, is_digit, with_digit, shifted, value_from, behind_digits, is_hex, hex_of, octet_of, octets_at, behind_octets, is_dash, word_octets, behind_word, Counted, Paired}
-use Rattle.words.specs.Table.{row_count, keys, row_from, row_of, mosts, most_of}
-use Rattle.words.specs.declared.Number.{Number}
+use Rattle.words.specs.Words.{is_blank, skipped, ended, is_empty, between, is_digit, shifted, value_from, behind_digits, is_hex, hex_of, octet_of, octets_at, behind_octets, is_dash, word_octets, behind_word, Counted, Paired}
+use Rattle.words.specs.Table.{row_count, keys, row_from, row_of}
 use Rattle.words.specs.declared.line.Word.{Word}
 use Rattle.words.specs.declared.line.Line.{Line}
-use Rattle.words.specs.Table.{name_after, all_sorts}
+use Rattle.words.specs.Table.{all_sorts}
 use Rattle.words.specs.Line as rule
 use Rattle.words.specs.Line.{WordRead, number_read, octets_read, word_read, Gathered, begun, line_read, silent, word_of, gathered, Apart, Reads}
 
 -- ---- blanks
-pub record Skipping (line : List ℕ) (from at : ℕ) : Type 0 where
-  pub is : skipped (drop at line) ≡ skipped (drop from line)
-  pub past : from ≤ at
-  pub inside : at ≤ length line
+blanks : List ℕ → ℕ
+blanks w = prefix_len (λ x. not (not (is_blank x))) w
 
-module _ (line : List ℕ) (from : ℕ) where
-  pub skip_none : from ≤ length line → Skipping line from from
-  skip_none l = record { is = refl; past = omega arith; inside = l }
+behind_blanks : (w : List ℕ) → drop (blanks w) w ≡ skipped w
+unfolding blanks skipped
+behind_blanks [] = refl
+behind_blanks (x ∷ w) = go (is_blank x) (behind_blanks w)
+  where
+    go : (b : Bool) → drop (blanks w) w ≡ skipped w → drop (cond (not (not b)) (1 + blanks w) 0) (x ∷ w) ≡ cond b (skipped w) (x ∷ w)
+    go true h = let e : 1 + blanks w ≡ suc (blanks w) = omega arith in rw e h
+    go false h = refl
 
-  module _ (at : ℕ) (u : Skipping line from at) where
-    pub skip_out : length line ≤ at → drop at line ≡ skipped (drop from line)
-    unfolding skipped
-    skip_out l = sym (sym u.is ∙ rw (drop_of_length-le line l)) ∙ refl
+module _ (w : List ℕ) where
+  place : (b : Bool) (k n : ℕ) → cond b (Some k) None ≡ Some n → k ≡ n
+  place true k n e = cc
+  place false k n e = cc
 
-    module _ (more : at < length line) (b : Bool) (is : b ≡ is_blank (get_or line at 0)) where
-      pub skip_ends : not b ≡ true → drop at line ≡ skipped (drop from line)
-      unfolding skipped
-      skip_ends e = rw (drop-cons line at 0) (sym (sym u.is ∙ rw (drop-cons line at 0, ← is, not-true b e)))
+  no_place : (b : Bool) (k : ℕ) → cond b (Some k) None ≡ None → b ≡ false
+  no_place true k e = cc
+  no_place false k e = refl
 
-      pub skip_more : not b ≡ false → Skipping line from (at + 1)
-      unfolding skipped
-      skip_more e =
-          let q : skipped (drop at line) ≡ skipped (drop (suc at) line) = rw (drop-cons line at 0, ← is, not-false b e) in
-          record {
-            is = rw add-one (sym q ∙ u.is);
-            past = omega (arith, u.past);
-            inside = omega arith;
-          }
+  skip_some : (n : ℕ) → position (λ x. not (is_blank x)) w ≡ Some n → drop n w ≡ skipped w
+  unfolding blanks
+  skip_some n e = rw (← place _ (blanks w) n e) (behind_blanks w)
+
+  skip_none : position (λ x. not (is_blank x)) w ≡ None → [] ≡ skipped w
+  unfolding blanks
+  skip_none e =
+      let l : length w ≤ blanks w = ltb-false (blanks w) (length w) (no_place _ (blanks w) e) in
+      sym (drop_of_length-le w l) ∙ behind_blanks w
+
+module _ (line : List ℕ) (from : ℕ) (r : option.Option ℕ) (is : r ≡ position (λ x. not (is_blank x)) (take (length line - from) (drop from line))) where
+  first : r ≡ position (λ x. not (is_blank x)) (drop from line)
+  first = rw (take_all (length line - from) (drop from line) (omega (arith, length-drop from line))) at is
+
+  pub skip_found : (n : ℕ) → r ≡ Some n → drop (from + n) line ≡ skipped (drop from line)
+  skip_found n e = sym (drop-drop n from line) ∙ skip_some (drop from line) n (sym first ∙ e)
+
+  pub skip_out : r ≡ None → drop (length line) line ≡ skipped (drop from line)
+  skip_out e = drop-length line ∙ skip_none (drop from line) (sym first ∙ e)
 
 -- where a word ends
 module _ (line : List ℕ) (at : ℕ) where
@@ -58,16 +78,13 @@ module _ (line : List ℕ) (at : ℕ) where
   unfolding ended
   end_blank b l is = rw (drop-cons line at 0) is
 
-  pub last_not : at < length line → false ≡ is_empty (drop at line)
+  pub last_told : leb (length line) at ≡ is_empty (drop at line)
   unfolding is_empty
-  last_not l = rw (drop-cons line at 0)
-
-  pub last_is : length line ≤ at → true ≡ is_empty (drop at line)
-  unfolding is_empty
-  last_is l = rw (drop_of_length-le line l)
-
-  pub last_no : (b : Bool) → b ≡ true → b ≡ false → at < length line
-  last_no b e f = absurd (clash b e f)
+  last_told = go (leb (length line) at) refl
+    where
+      go : (b : Bool) → b ≡ leb (length line) at → b ≡ is_empty (drop at line)
+      go true e = rw (drop_of_length-le line (leb-true (length line) at (sym e)))
+      go false e = rw (drop-cons line at 0 (leb-false (length line) at (sym e)))
 
   pub end_line : length line ≤ at → true ≡ ended (drop at line)
   unfolding ended
@@ -78,25 +95,11 @@ module _ (line : List ℕ) (at : ℕ) (is : drop at line ≡ skipped line) where
   unfolding rule.is_comment
   comment_told l = rw (← is, drop-cons line at 0)
 
-  pub comment_none : length line ≤ at → true ≡ silent line
+  pub comment_none : length line ≤ at → leb (length line) at ≡ silent line
   unfolding rule.is_comment
-  comment_none l = rw (← is, drop_of_length-le line l)
+  comment_none l = rw (le-leb (length line) at l, ← is, drop_of_length-le line l)
 
 -- ---- names and numbers
-module _ (name : Bool) (n x : ℕ) where
-  pub letter_more : name ≡ true → n * 32 + x % 32 ≡ with_digit name n x
-  letter_more e = rw e
-
-  pub figure_more : name ≡ false → n * 10 + x % 16 ≡ with_digit name n x
-  figure_more e = rw e
-
-  module _ (most v : ℕ) (is : v ≡ with_digit name n x) where
-    pub shifted_low : v ≤ most → v ≡ shifted name most n x
-    shifted_low l = rw (← is, le-leb v most l)
-
-    pub shifted_high : most < v → most + 1 ≡ shifted name most n x
-    shifted_high l = rw (← is, lt-leb v most l)
-
 pub record Counting (name : Bool) (most : ℕ) (line : List ℕ) (from value at : ℕ) : Type 0 where
   pub is : value_from name most value (drop at line) ≡ value_from name most 0 (drop from line)
   pub text : behind_digits name (drop at line) ≡ behind_digits name (drop from line)
@@ -105,23 +108,17 @@ pub record Counting (name : Bool) (most : ℕ) (line : List ℕ) (from value at 
   pub inside : at ≤ length line
 
 module _ (name : Bool) (most : ℕ) (line : List ℕ) (from : ℕ) where
-  pub count_none : from ≤ length line → Counting name most line from 0 from
-  count_none l = record { is = refl; text = refl; small = omega arith; past = omega arith; inside = l }
-
   module _ (value at : ℕ) (u : Counting name most line from value at) where
-    pub count_small : value ≤ 36028797018963968
-    count_small = u.small
-
-    pub count_all : length line ≤ at → Counted name most from line (record { value = value; at = at })
+    pub count_all : length line ≤ at → Counted name most from line (record { value = value; at = length line })
     unfolding value_from behind_digits
     count_all l =
         let v : value_from name most value (drop at line) ≡ value = rw (drop_of_length-le line l) in
-        let t : behind_digits name (drop at line) ≡ drop at line = rw (drop_of_length-le line l) in
+        let t : behind_digits name (drop at line) ≡ [] = rw (drop_of_length-le line l) in
         record {
           is = sym v ∙ u.is;
-          text = sym t ∙ u.text;
-          past = u.past;
-          inside = u.inside;
+          text = drop_of_length-le line (omega arith) ∙ sym t ∙ u.text;
+          past = omega (arith, u.past, u.inside);
+          inside = omega arith;
         }
 
     module _ (more : at < length line) (b : Bool) (is : b ≡ is_digit name (get_or line at 0)) where
@@ -171,82 +168,75 @@ two_more line at l =
     let n : at + 2 ≡ suc (suc at) = omega arith in
     rw (n, add-one, drop-cons line at 0 (omega arith), drop-cons line (suc at) 0 (omega arith))
 
--- what was read and what is to come are together the octets that there are
-pub record Pairing (line₀ : List ℕ) (from end : ℕ) (line : List ℕ) (at to : ℕ) : Type 0 where
-  pub is : take to line ++ octets_at (drop at line) ≡ take end line₀ ++ octets_at (drop from line₀)
-  pub many : to + length (octets_at (drop at line)) ≡ end + length (octets_at (drop from line₀))
-  pub text : behind_octets (drop at line) ≡ behind_octets (drop from line₀)
-  pub past : (end ≤ to) × (to ≤ at)
-  pub inside : at ≤ length line₀
+-- what was read, n octets, and what is to come are together the octets that there are
+pub record Pairing (line₀ : List ℕ) (from end : ℕ) (line : List ℕ) (n : ℕ) : Type 0 where
+  pub is : take (end + n) line ++ octets_at (drop (from + 2 * n) line) ≡ take end line₀ ++ octets_at (drop from line₀)
+  pub many : n + length (octets_at (drop (from + 2 * n) line)) ≡ length (octets_at (drop from line₀))
+  pub text : behind_octets (drop (from + 2 * n) line) ≡ behind_octets (drop from line₀)
+  pub apart : end ≤ from
+  pub inside : from + 2 * n ≤ length line₀
   pub long : length line ≡ length line₀
 
 module _ (line₀ : List ℕ) (from end : ℕ) where
-  pub pair_none : end ≤ from → from ≤ length line₀ → Pairing line₀ from end line₀ from end
-  pair_none l m = record { is = refl; many = refl; text = refl; past = (omega arith, l); inside = m; long = refl }
-
-  module _ (line : List ℕ) (at to : ℕ) (u : Pairing line₀ from end line at to) where
-    pub pair_started : end ≤ to
-    pair_started = u.past.0
-
-    pub pair_long : length line ≡ length line₀
-    pair_long = u.long
-
-    module _ (none : octets_at (drop at line) ≡ []) (all : behind_octets (drop at line) ≡ drop at line) where
-      pair_end : Paired (octets_at (drop from line₀)) (behind_octets (drop from line₀)) end line₀ (record { count = to - end; at = at }) line
+  module _ (line : List ℕ) (n : ℕ) (u : Pairing line₀ from end line n) where
+    module _ (none : octets_at (drop (from + 2 * n) line) ≡ []) (all : behind_octets (drop (from + 2 * n) line) ≡ drop (from + 2 * n) line) where
+      pair_end
+          : Paired (octets_at (drop from line₀)) (behind_octets (drop from line₀)) end line₀ (record { count = n; at = from + 2 * n }) line
       pair_end =
-          let n : end + (to - end) ≡ to = omega (arith, u.past.0) in
-          let m : length (octets_at (drop at line)) ≡ 0 = rw none in
+          let m : length (octets_at (drop (from + 2 * n) line)) ≡ 0 = rw none in
           record {
-            octets' = rw n (sym (sym u.is ∙ rw (none, append-nil)));
+            octets' = sym (sym u.is ∙ rw (none, append-nil));
             many = omega (arith, u.many);
             text' = sym all ∙ u.text;
-            inside = (rw n u.past.1, u.inside);
+            inside = (omega (arith, u.apart), u.inside);
             long = u.long;
           }
 
-    pub pair_all : length line ≤ at + 1
-        → Paired (octets_at (drop from line₀)) (behind_octets (drop from line₀)) end line₀ (record { count = to - end; at = at }) line
-    pair_all l =
-        let m : length (drop at line) ≤ 1 = simp length-drop (omega arith) in
-        pair_end (short (drop at line) m).0 (short (drop at line) m).1
+    pub pair_all : (m : ℕ) → m ≡ (length line₀ - from) / 2 → m ≤ n
+        → Paired (octets_at (drop from line₀)) (behind_octets (drop from line₀)) end line₀ (record { count = m; at = from + 2 * m }) line
+    pair_all m e l =
+        let same : m ≡ n = omega (arith, e, u.inside) in
+        let k : length (drop (from + 2 * n) line) ≤ 1 = simp length-drop (omega (arith, e, u.long, u.inside)) in
+        rw same (pair_end (short (drop (from + 2 * n) line) k).0 (short (drop (from + 2 * n) line) k).1)
 
-    module _ (more : at + 1 < length line) where
-      pub pair_at : at < length line
-      pair_at = omega arith
+    module _ (more : n < (length line₀ - from) / 2) where
+      pub pair_next : from + 2 * n + 1 < length line
+      pair_next = omega (arith, u.long)
 
-      pub pair_to : to < length line
-      pair_to = omega (arith, u.past.1)
+      module _ (b : ℕ) (is : b ≡ octet_of (get_or line (from + 2 * n) 0) (get_or line (from + 2 * n + 1) 0)) where
+        two : drop (from + 2 * n) line ≡ get_or line (from + 2 * n) 0 ∷ get_or line (from + 2 * n + 1) 0 ∷ drop (from + 2 * n + 2) line
+        two = two_more line (from + 2 * n) pair_next
 
-      pub pair_less : length line₀ - (at + 2) < length line₀ - at
-      pair_less = omega (arith, u.long)
-
-      module _ (x : ℕ) (is : x ≡ octet_of (get_or line at 0) (get_or line (at + 1) 0)) where
-        pub pair_ends : x ≡ 256
-            → Paired (octets_at (drop from line₀)) (behind_octets (drop from line₀)) end line₀ (record { count = to - end; at = at }) line
+        pub pair_ends : b ≡ 256
+            → Paired (octets_at (drop from line₀)) (behind_octets (drop from line₀)) end line₀ (record { count = n; at = from + 2 * n }) line
         unfolding octets_at behind_octets
-        pair_ends e = pair_end (rw (two_more line at more, ← is, eq-eqb x 256 e)) (rw (two_more line at more, ← is, eq-eqb x 256 e))
+        pair_ends e = pair_end (rw (two, ← is, eq-eqb b 256 e)) (rw (two, ← is, eq-eqb b 256 e))
 
-        pub pair_more : (x ≡ 256 → ⊥) → Pairing line₀ from end (set line to x) (at + 2) (to + 1)
+        pub pair_more : b < 256 → Pairing line₀ from end (set line (end + n) b) (n + 1)
         unfolding octets_at behind_octets
         pair_more f =
-            let d : drop (at + 2) (set line to x) ≡ drop (at + 2) line = drop-set-lt (at + 2) line to x (omega (arith, u.past.1)) in
-            let o : octets_at (drop at line) ≡ x ∷ octets_at (drop (at + 2) line) = rw (two_more line at more, ← is, ne_eqb x 256 f) in
-            let t : behind_octets (drop at line) ≡ behind_octets (drop (at + 2) line) = rw (two_more line at more, ← is, ne_eqb x 256 f) in
-            let n : length (octets_at (drop at line)) ≡ length (octets_at (drop (at + 2) line)) + 1 = rw (o, add-one) in
+            let g : b ≡ 256 → ⊥ = omega arith in
+            let p : from + 2 * (n + 1) ≡ from + 2 * n + 2 = omega arith in
+            let q : end + (n + 1) ≡ suc (end + n) = omega arith in
+            let d : drop (from + 2 * n + 2) (set line (end + n) b) ≡ drop (from + 2 * n + 2) line =
+            drop-set-lt (from + 2 * n + 2) line (end + n) b (omega (arith, u.apart)) in
+            let o : octets_at (drop (from + 2 * n) line) ≡ b ∷ octets_at (drop (from + 2 * n + 2) line) = rw (two, ← is, ne_eqb b 256 g) in
+            let t : behind_octets (drop (from + 2 * n) line) ≡ behind_octets (drop (from + 2 * n + 2) line) = rw (two, ← is, ne_eqb b 256 g) in
+            let m : length (octets_at (drop (from + 2 * n) line)) ≡ length (octets_at (drop (from + 2 * n + 2) line)) + 1 = rw (o, add-one) in
             record {
               is =
-                  rw (d, add-one, take-suc-set line to x (omega (arith, u.past.1)), append_assoc)
-                  (sym (ap (λ (w : List ℕ). take to line ++ w) o) ∙ u.is);
-              many = rw d (omega (arith, u.many));
-              text = rw d (sym t ∙ u.text);
-              past = (omega (arith, u.past.0), omega (arith, u.past.1));
+                  rw (p, q, d, take-suc-set line (end + n) b (omega (arith, u.apart, u.long)), append_assoc)
+                  (sym (ap (λ (w : List ℕ). take (end + n) line ++ w) o) ∙ u.is);
+              many = rw (p, d) (omega (arith, u.many));
+              text = rw (p, d) (sym t ∙ u.text);
+              apart = u.apart;
               inside = omega (arith, u.long);
               long = rw length-set u.long;
             }
 
 -- two digits make an octet
 module _ (a b : ℕ) (f g : Bool) (p : f ≡ is_hex a) (q : g ≡ is_hex b) where
-  pub no_octet : f && g ≡ false → 256 ≡ octet_of a b
+  pub no_octet : f && g ≡ false → octet_of a b ≡ 256
   unfolding octet_of
   no_octet e = rw (← p, ← q, e)
 
@@ -255,11 +245,8 @@ module _ (a b : ℕ) (f g : Bool) (p : f ≡ is_hex a) (q : g ≡ is_hex b) wher
     unfolding octet_of
     one_octet = rw (← p, ← q, e, x, y)
 
-    pub octet_small : h * 16 + l ≤ 256
+    pub octet_small : h * 16 + l < 256
     octet_small = let (s, t) = both f g e in omega (arith, x, y, hex_small a (sym p ∙ s), hex_small b (sym q ∙ t))
-
-pub hex_fits : (h a : ℕ) → h ≡ hex_of a → a < 256 → h ≤ 42
-hex_fits h a e l = omega (arith, e)
 
 -- `-`
 module _ (line : List ℕ) (from end : ℕ) (there : from < length line) where
@@ -285,76 +272,55 @@ module _ (line : List ℕ) (from end : ℕ) (there : from < length line) where
   pairs_read r after f h = rw (dash_at ∙ ne_eqb (get_or line from 0) 45 f) h
 
 -- ---- the table
-pub record Finding (key i : ℕ) : Type 0 where
-  pub is : row_from key i (drop i keys) ≡ row_of key
-  pub past : 1 ≤ i
-  pub inside : i ≤ row_count
-
 module _ (key : ℕ) where
-  pub find_none : Finding key 1
-  find_none = record { is = refl; past = omega arith; inside = omega arith }
+  before_key : List (Row) → ℕ
+  before_key xs = position_or_len (λ (r : Row). eqb r.0 key) xs
 
-  module _ (i : ℕ) (u : Finding key i) where
-    pub find_out : row_count ≤ i → 0 ≡ row_of key
-    unfolding row_from
-    find_out l = let e : i ≡ row_count = omega (arith, u.inside) in subst (λ (k : ℕ). row_from key k (drop k keys) ≡ row_of key) e u.is
+  -- the rule's search of the keys, as a search of the rows
+  row_from_is : (i : ℕ) (xs : List (Row)) → row_from key i (map (λ r. r.0) xs) ≡ cond (ltb (before_key xs) (length xs)) (i + before_key xs) 0
+  unfolding row_from before_key
+  row_from_is i [] = refl
+  row_from_is i (x ∷ xs) = go (eqb x.0 key) (row_from_is (i + 1) xs)
+    where
+      go : (b : Bool) → row_from key (i + 1) (map (λ r. r.0) xs) ≡ cond (ltb (before_key xs) (length xs)) (i + 1 + before_key xs) 0
+          → cond b i (row_from key (i + 1) (map (λ r. r.0) xs))
+          ≡ cond (ltb (cond (not b) (1 + before_key xs) 0) (suc (length xs))) (i + cond (not b) (1 + before_key xs) 0) 0
+      go true h = rw (lt-ltb 0 (suc (length xs)) (omega arith), add-zero)
+      go false h = let e : i + suc (before_key xs) ≡ i + 1 + before_key xs = omega arith in rw (one-add (before_key xs), suc-suc (suc (before_key xs)) (length xs), e) h
 
-    module _ (more : i < row_count) where
-      next : row_from key i (drop i keys) ≡ cond (eqb (get_or keys i 0) key) i (row_from key (i + 1) (drop (suc i) keys))
-      unfolding row_from
-      next = rw (drop-cons keys i 0 more)
+  or_none : (b : Bool) (k : ℕ) → unwrap_or (cond b (Some k) None) 0 ≡ cond b k 0
+  or_none true k = refl
+  or_none false k = refl
 
-      pub find_here : (k : ℕ) → k ≡ get_or keys i 0 → k ≡ key → i ≡ row_of key
-      find_here k is e = sym (sym u.is ∙ next ∙ rw (← is, eq-eqb k key e))
+  below : (b : Bool) (k n : ℕ) → b ≡ ltb k n → 0 < n → cond b k 0 < n
+  below true k n e l = ltb-true k n (sym e)
+  below false k n e l = l
 
-      pub find_more : (k : ℕ) → k ≡ get_or keys i 0 → (k ≡ key → ⊥) → Finding key (i + 1)
-      find_more k is f =
-          record {
-            is = rw add-one (sym (sym u.is ∙ next ∙ rw (← is, ne_eqb k key f, add-one)));
-            past = omega arith;
-            inside = omega arith;
-          }
+  -- row 0 has the key 0, as no other row
+  first_row : row_from key 0 keys ≡ row_of key
+  unfolding row_from letters
+  first_row = go (eqb 0 key) refl
+    where
+      go : (b : Bool) → b ≡ eqb 0 key → cond b 0 (row_of key) ≡ row_of key
+      go true e = let z : 0 ≡ key = eqb-true 0 key (sym e) in subst (λ (k : ℕ). 0 ≡ row_of k) z refl
+      go false e = refl
 
--- a number and what is added to it stay small
-most_small : (i : ℕ) → i < 8 → get_or mosts i 0 ≤ 36028797018963967
-most_small zero l = omega arith
-most_small (suc zero) l = omega arith
-most_small (suc (suc zero)) l = omega arith
-most_small (suc (suc (suc zero))) l = omega arith
-most_small (suc (suc (suc (suc zero)))) l = omega arith
-most_small (suc (suc (suc (suc (suc zero))))) l = omega arith
-most_small (suc (suc (suc (suc (suc (suc zero)))))) l = omega arith
-most_small (suc (suc (suc (suc (suc (suc (suc zero))))))) l = omega arith
-most_small (suc (suc (suc (suc (suc (suc (suc (suc i)))))))) l = absurd (omega arith)
+  module _ (r : option.Option ℕ) (is : r ≡ position (λ (r : Row). eqb r.0 key) ROWS) where
+    chosen : unwrap_or r 0 ≡ cond (ltb (before_key ROWS) row_count) (before_key ROWS) 0
+    unfolding before_key
+    chosen = ap (λ (o : option.Option ℕ). unwrap_or o 0) is ∙ or_none _ (before_key ROWS)
 
-pub most_below : (sort : ℕ) → most_of sort ≤ 36028797018963967
-most_below sort = most_small (sort % 8) (omega arith)
+    pub find_row : unwrap_or r 0 ≡ row_of key
+    unfolding letters
+    find_row = chosen ∙ ap (λ (n : ℕ). cond (ltb (before_key ROWS) row_count) n 0) (sym (zero-add (before_key ROWS))) ∙ sym (row_from_is 0 ROWS) ∙ first_row
+
+    pub find_below : unwrap_or r 0 < row_count
+    find_below = rw chosen (below _ (before_key ROWS) row_count refl (omega arith))
+
+pub sorts_are : (i : ℕ) (d : Row) → i < row_count → (get_or ROWS i d).1 ≡ get_or all_sorts i 0
+sorts_are i d l = sym (get_or-map (λ (r : Row). r.1) ROWS i d 0 l)
 
 -- ---- one word
-module _ (sort at end most : ℕ) (line : List ℕ) (n : Number) (b : Bool) where
-  pub number_told : most ≡ most_of sort → Counted (eqb sort 1) most at line n → b ≡ ended (drop n.at line)
-      → word_of (record { good = leb n.value most && b; value = n.value; at = n.at; end = end }) line
-      ≡ number_read sort (take end line) (drop at line)
-  number_told is h e = rw (← is, ← h.is, ← h.text, ← e)
-
-  pub number_inside : end ≤ at → Counted (eqb sort 1) most at line n → Apart end n.at line line
-  number_inside l h = record { apart = omega (arith, h.past); within = h.inside; long = refl }
-
-module _ (wanted at end : ℕ) (line after : List ℕ) (p : Pairs) (h : Paired (word_octets (drop at line)) (behind_word (drop at line)) end line p after) where
-  pub octets_sum : end + p.count ≤ length line
-  octets_sum = omega (arith, h.inside.0, h.inside.1)
-
-  pub octets_told : (b : Bool) → end ≤ at → at < length line → b ≡ ended (drop p.at after)
-      → word_of (record { good = (eqb wanted 0 || eqb p.count wanted) && b; value = end + p.count; at = p.at; end = end + p.count }) after
-      ≡ octets_read wanted (take end line) (drop at line)
-  octets_told b l m e =
-      let v : end + p.count ≡ length (take end line ++ word_octets (drop at line)) =
-      rw (length-append, length-take-le end line (omega arith), h.many) in
-      rw (h.octets', h.text', v, h.many, e, h.text')
-
-  pub octets_inside : Apart (end + p.count) p.at line after
-  octets_inside = record { apart = h.inside.0; within = h.inside.1; long = h.long }
-
 pub word_octets_lem : (sort : ℕ) (o t : List ℕ) (w : WordRead) → 32 ≤ sort → w ≡ octets_read (sort % 16) o t → w ≡ word_read sort o t
 unfolding word_read
 word_octets_lem sort o t w l e = rw (le-leb 32 sort l) e
@@ -364,32 +330,8 @@ unfolding word_read
 word_number sort o t w l e = rw (lt-leb 32 sort l) e
 
 -- ---- a line
-module _ (s : Line) (w : Word) (r : Line) (sort : ℕ) where
-  pub worded_name : sort ≡ 1 → ((l k : List ℕ) → gathered r l ≡ rule.named (gathered s k) (word_of w l) (row_of (name_after s.row w.value)))
-      → (l k : List ℕ) → gathered r l ≡ rule.worded (gathered s k) sort (word_of w l)
-  worded_name e h l k = rw (eq-eqb sort 1 e) (h l k)
-
-  pub worded_value : (sort ≡ 1 → ⊥) → ((l k : List ℕ) → gathered r l ≡ rule.valued (gathered s k) (word_of w l))
-      → (l k : List ℕ) → gathered r l ≡ rule.worded (gathered s k) sort (word_of w l)
-  worded_value f h l k = rw (ne_eqb sort 1 f) (h l k)
-
-pub named_told : (s : Line) (w : Word) (row sorts : ℕ) → row ≡ row_of (name_after s.row w.value) → sorts ≡ get_or all_sorts row 0 → (l k : List ℕ)
-    → gathered (record { understood = false; more = w.good && not (eqb row 0); row = row; sorts = sorts; values = s.values; count = s.count; at = w.at; end = w.end }) l
-    ≡ rule.named (gathered s k) (word_of w l) (row_of (name_after s.row w.value))
-named_told s w row sorts e f l k = rw (← e, f)
-
 -- the flag that ends a line
 module _ (last : Bool) (sort : ℕ) where
-  pub goes_on : (last || eqb sort 0 || eqb sort 15) ≡ false → last ≡ false
-  goes_on = go last
-    where
-      go : (b : Bool) → (b || eqb sort 0 || eqb sort 15) ≡ false → b ≡ false
-      go false e = refl
-      go true e = e
-
-  pub step_there : (at n : ℕ) → (last ≡ false → at < n) → (last || eqb sort 0 || eqb sort 15) ≡ false → at < n
-  step_there at n h e = h (goes_on e)
-
   module _ (s r : Line) (line : List ℕ) (at : ℕ) (t : drop at line ≡ skipped (drop s.at line)) (is : last ≡ is_empty (drop at line)) (k : sort ≡ s.sorts % 64) where
     pub step_closed : (last || eqb sort 0 || eqb sort 15) ≡ true
         → ((l : List ℕ) → gathered r l ≡ rule.line_ends (gathered s l) (eqb sort 15 || ((eqb sort 0 || eqb (sort / 16 % 2) 1) && last)) (drop at l))
@@ -403,13 +345,6 @@ module _ (last : Bool) (sort : ℕ) where
         → gathered r after ≡ rule.step_on (gathered s line)
     unfolding rule.step_on
     step_worded e w after f h = h after line ∙ ap (λ (x : WordRead). rule.worded (gathered s line) sort x) f ∙ sym (rw (← k, ← t, ← is, e))
-
-module _ (r : Line) (line after : List ℕ) (at end : ℕ) (a : r.at ≡ at) (e : r.end ≡ end) where
-  pub inside_closed : (from : ℕ) → end ≤ from → from ≤ at → at ≤ length line → Apart r.end r.at line line
-  inside_closed from l m n = record { apart = omega (arith, a, e); within = omega (arith, a); long = refl }
-
-  pub inside_worded : Apart end at line after → Apart r.end r.at line after
-  inside_worded i = record { apart = omega (arith, a, e, i.apart); within = omega (arith, a, i.within); long = i.long }
 
 module _ (n : ℕ) (x : Gathered) where
   stays : x.more ≡ false → rule.steps (suc n) x ≡ x
@@ -426,24 +361,7 @@ pub record Reading (line₀ line : List ℕ) (s : Line) (k : ℕ) : Type 0 where
   pub inside : Apart s.end s.at line₀ line
   pub some : k ≤ 16
 
-pub read_none : (line : List ℕ) (s : Line) → ((l : List ℕ) → gathered s l ≡ begun l) → s.at ≡ 0 → s.end ≡ 0 → Reading line line s 0
-read_none line s h a e =
-    record {
-      is = ap (λ (x : Gathered). rule.steps 16 x) (h line);
-      inside = record { apart = omega (arith, a, e); within = omega (arith, a); long = refl };
-      some = omega arith;
-    }
-
 module _ (line₀ line : List ℕ) (s : Line) (k : ℕ) (u : Reading line₀ line s k) where
-  pub read_apart : s.end ≤ s.at
-  read_apart = u.inside.apart
-
-  pub read_within : s.at ≤ length line
-  read_within = omega (arith, u.inside.within, u.inside.long)
-
-  pub read_long : length line ≡ length line₀
-  read_long = u.inside.long
-
   pub read_all : 16 ≤ k → Reads s line₀ line
   unfolding rule.steps
   read_all l =
@@ -468,65 +386,31 @@ module _ (line₀ line : List ℕ) (s : Line) (k : ℕ) (u : Reading line₀ lin
 
 pub ruleset steps = (
   rules,
-  skip_none,
+  skip_found,
   skip_out,
-  skip_ends,
-  skip_more,
   end_blank,
-  last_not,
-  last_is,
-  last_no,
+  last_told,
   end_line,
   comment_told,
   comment_none,
-  letter_more,
-  figure_more,
-  shifted_low,
-  shifted_high,
-  count_none,
-  count_small,
   count_all,
   count_ends,
   count_more,
-  pair_none,
-  pair_started,
-  pair_long,
   pair_all,
-  pair_at,
-  pair_to,
-  pair_less,
   pair_ends,
   pair_more,
   no_octet,
   one_octet,
   octet_small,
-  hex_fits,
   dash_read,
   pairs_read,
-  find_none,
-  find_out,
-  find_here,
-  find_more,
-  most_below,
-  number_told,
-  number_inside,
-  octets_sum,
-  octets_told,
-  octets_inside,
+  find_row,
+  find_below,
+  sorts_are,
   word_octets_lem,
   word_number,
-  worded_name,
-  worded_value,
-  named_told,
-  step_there,
   step_closed,
   step_worded,
-  inside_closed,
-  inside_worded,
-  read_none,
-  read_apart,
-  read_within,
-  read_long,
   read_all,
   read_ends,
   read_more,

@@ -4,9 +4,9 @@ pub mod input;
 pub mod line;
 pub mod table;
 
-ghost use Rattle.std.specs.Prelude.{◌≡◌, false, ◌≤◌, ◌<◌, length, drop};
+ghost use Rattle.std.specs.Prelude.{◌≡◌, false, ◌≤◌, ◌<◌, length, drop, not, position, MatchOption};
 ghost use Rattle.words.specs.Words as rule;
-ghost use Rattle.words.specs.Words.{is_blank, skipped, ended, is_empty, is_digit, with_digit, is_hex, hex_of, octet_of, octets_at, behind_octets, word_octets, behind_word, Counted, Paired};
+ghost use Rattle.words.specs.Words.{is_blank, skipped, ended, is_empty, is_digit, with_digit, hex_of, octet_of, octets_at, behind_octets, word_octets, behind_word, Counted, Paired};
 
 // The number that was read, and the place behind it.
 #[derive(Clone, Copy)]
@@ -27,7 +27,14 @@ pub(crate) struct Pairs {
 fn is_blank(x: u8) -> bool
     ensures { result ≡ is_blank x }
 {
-    (x == 32) | (x == 9) | (x == 13)
+    matches!(x, b' ' | b'\t' | b'\r')
+}
+
+// Where the first character is that is no blank.
+fn first_word(text: &[u8]) -> Option<usize>
+    ensures { result ≡ position (λ x. not (is_blank x)) text.now }
+{
+    text.iter().position(|x| !is_blank(*x))
 }
 
 // The next place where there is no blank.
@@ -36,34 +43,24 @@ pub(crate) fn skip(line: &[u8], from: usize) -> usize
     ensures line_value { drop result line.now ≡ skipped (drop from line.now) }
     ensures lower_bound { (from ≤ result) × (result ≤ length line.now) }
 {
-    let mut at = from;
-    while at < line.len() {
-        if !is_blank(line[at]) {
-            return at;
-        }
-        at += 1;
+    match first_word(&line[from..]) {
+        Some(n) => from + n,
+        None => line.len(),
     }
-    at
 }
 
 // Whether a word ends at a place.
 pub(crate) fn is_end(line: &[u8], at: usize) -> bool
     ensures { result ≡ ended (drop at line.now) }
 {
-    if at < line.len() {
-        return is_blank(line[at]);
-    }
-    true
+    line.get(at).is_none_or(|x| is_blank(*x))
 }
 
 // Whether the line ends at a place.
 pub(crate) fn is_last(line: &[u8], at: usize) -> bool
     ensures { (result ≡ is_empty (drop at line.now)) × (result ≡ false → at < length line.now) }
 {
-    if at < line.len() {
-        return false;
-    }
-    true
+    line.len() <= at
 }
 
 // ---- names and numbers
@@ -71,8 +68,11 @@ pub(crate) fn is_last(line: &[u8], at: usize) -> bool
 fn is_digit(name: bool, x: u8) -> bool
     ensures { result ≡ is_digit name x }
 {
-    let letter = ((65 <= x) & (x <= 90)) | ((97 <= x) & (x <= 122));
-    (name & letter) | (!name & (48 <= x) & (x <= 57))
+    if name {
+        x.is_ascii_alphabetic()
+    } else {
+        x.is_ascii_digit()
+    }
 }
 
 // A number with one digit more.
@@ -81,9 +81,10 @@ fn with_digit(name: bool, n: u64, x: u8) -> u64
     ensures { result ≡ with_digit name n x }
 {
     if name {
-        return n * 32 + (x % 32) as u64;
+        n * 32 + u64::from(x % 32)
+    } else {
+        n * 10 + u64::from(x % 16)
     }
-    n * 10 + (x % 16) as u64
 }
 
 // The same, but every number above `most` counts as one more than that.
@@ -100,33 +101,21 @@ pub(crate) fn number_at(line: &[u8], from: usize, name: bool, most: u64) -> Numb
     requires { (from ≤ length line.now) × (most ≤ 36028797018963967) }
     ensures { Counted name most from line.now result }
 {
-    let mut value: u64 = 0;
-    let mut at = from;
-    while at < line.len() {
+    let mut value = 0;
+    for at in from..line.len() {
         let x = line[at];
         if !is_digit(name, x) {
-            return Number {
-                value: value,
-                at: at,
-            };
+            return Number { value, at };
         }
         value = shifted(name, most, value, x);
-        at += 1;
     }
     Number {
-        value: value,
-        at: at,
+        value,
+        at: line.len(),
     }
 }
 
 // ---- octets
-// Whether a character is a hexadecimal digit.
-fn is_hex(x: u8) -> bool
-    ensures { result ≡ is_hex x }
-{
-    ((48 <= x) & (x <= 57)) | ((65 <= x) & (x <= 70)) | ((97 <= x) & (x <= 102))
-}
-
 // The value of a hexadecimal digit.
 fn hex_of(x: u8) -> u16
     ensures { result ≡ hex_of x }
@@ -134,14 +123,15 @@ fn hex_of(x: u8) -> u16
     (x % 16) as u16 + 9 * (x / 64) as u16
 }
 
-// The octet that two digits are; 256 if one is none.
-fn octet_of(high: u8, low: u8) -> u16
-    ensures { (result ≡ octet_of high low) × (result ≤ 256) }
+// The octet that two digits are; none if one is no digit, for which the rule has 256.
+fn octet_of(high: u8, low: u8) -> Option<u8>
+    ensures { MatchOption result (octet_of high low ≡ 256) (λ x. (x ≡ octet_of high low) × (x < 256)) }
 {
-    if is_hex(high) & is_hex(low) {
-        return hex_of(high) * 16 + hex_of(low);
+    if high.is_ascii_hexdigit() & low.is_ascii_hexdigit() {
+        Some((hex_of(high) * 16 + hex_of(low)) as u8)
+    } else {
+        None
     }
-    256
 }
 
 // Reads pairs of digits from a place on, to the place `end` of the line and behind it, which is not farther.
@@ -149,23 +139,17 @@ fn pairs_at(line: &mut [u8], from: usize, end: usize) -> Pairs
     requires { (end ≤ from) × (from ≤ length line.old) }
     ensures { Paired (octets_at (drop from line.old)) (behind_octets (drop from line.old)) end line.old result line.new }
 {
-    let mut at = from;
-    let mut to = end;
-    while at + 1 < line.len() {
-        let x = octet_of(line[at], line[at + 1]);
-        if x == 256 {
-            return Pairs {
-                count: to - end,
-                at: at,
-            };
-        }
-        line[to] = x as u8;
-        at += 2;
-        to += 1;
+    let most = (line.len() - from) / 2;
+    for count in 0..most {
+        let at = from + 2 * count;
+        let Some(x) = octet_of(line[at], line[at + 1]) else {
+            return Pairs { count, at };
+        };
+        line[end + count] = x;
     }
     Pairs {
-        count: to - end,
-        at: at,
+        count: most,
+        at: from + 2 * most,
     }
 }
 
@@ -174,11 +158,12 @@ pub(crate) fn octets_at(line: &mut [u8], from: usize, end: usize) -> Pairs
     requires { (end ≤ from) × (from < length line.old) }
     ensures { Paired (word_octets (drop from line.old)) (behind_word (drop from line.old)) end line.old result line.new }
 {
-    if line[from] == 45 {
-        return Pairs {
+    if line[from] == b'-' {
+        Pairs {
             count: 0,
             at: from + 1,
-        };
+        }
+    } else {
+        pairs_at(line, from, end)
     }
-    pairs_at(line, from, end)
 }

@@ -5,10 +5,11 @@ ghost use Rattle.words.specs.Line as rule;
 ghost use Rattle.words.specs.Line.{silent, number_read, octets_read, word_read, begun, word_of, gathered, Apart, Reads};
 ghost use Rattle.words.specs.Table.{name_after, row_of};
 
-use crate::table::{find, most_of, sorts_of};
+use crate::table::{ANY, END, NAME, SLOT_PARTS, find, most_of, sorts_of};
 use crate::{is_end, is_last, number_at, octets_at, skip};
 
-// What reading a word gave: whether it is of its sort, its value, the place behind it, and how many octets the line has so far.
+// What reading a word gave: whether it is of its sort, its value, the place behind it, and how many octets the line has so far. `good` is a flag,
+// and no `Option`, since the rule (`WordRead` of specs/Line.antt) gives a word that is not of its sort a value and a place too.
 #[derive(Clone, Copy)]
 pub(crate) struct Word {
     pub(crate) good: bool,
@@ -21,6 +22,7 @@ pub(crate) struct Word {
 pub const VALUES: usize = 9;
 
 // What was read of a line. The values are those of the words behind the names: a number, or for octets how many the line has up to their end.
+// `understood` and `more` are flags as in the rule (`Gathered` of specs/Line.antt), which has a row and values of a line that is not understood too.
 #[derive(Clone, Copy)]
 pub struct Line {
     pub understood: bool,
@@ -41,13 +43,12 @@ fn number_read(sort: u8, line: &[u8], at: usize, end: usize) -> Word
     ensures apart { Apart result.end result.at line.now line.now }
 {
     let most = most_of(sort);
-    let n = number_at(line, at, sort == 1, most);
-    let value = n.value;
+    let n = number_at(line, at, sort == NAME, most);
     Word {
-        good: (value <= most) & is_end(line, n.at),
-        value: value,
+        good: (n.value <= most) & is_end(line, n.at),
+        value: n.value,
         at: n.at,
-        end: end,
+        end,
     }
 }
 
@@ -73,10 +74,11 @@ fn word_read(sort: u8, line: &mut [u8], at: usize, end: usize) -> Word
     ensures line_after { word_of result line.new ≡ word_read sort (take end line.old) (drop at line.old) }
     ensures apart { Apart result.end result.at line.old line.new }
 {
-    if 32 <= sort {
-        return octets_read((sort % 16) as usize, line, at, end);
+    if ANY <= sort {
+        octets_read((sort % 16) as usize, line, at, end)
+    } else {
+        number_read(sort, line, at, end)
     }
-    number_read(sort, line, at, end)
 }
 
 // ---- a line
@@ -99,11 +101,12 @@ fn start() -> Line
 fn closed(s: Line, good: bool, at: usize) -> Line
     ensures { ((l : List ℕ) → gathered result l ≡ rule.line_ends (gathered s l) good (drop at l)) × (result.at ≡ at) × (result.end ≡ s.end) }
 {
-    let mut t = s;
-    t.understood = good;
-    t.more = false;
-    t.at = at;
-    t
+    Line {
+        understood: good,
+        more: false,
+        at,
+        ..s
+    }
 }
 
 // Behind a name, which leads to a row.
@@ -111,40 +114,45 @@ fn named(s: Line, w: Word) -> Line
     ensures { ((l k : List ℕ) → gathered result l ≡ rule.named (gathered s k) (word_of w l) (row_of (name_after s.row w.value))) × (result.at ≡ w.at) × (result.end ≡ w.end) }
 {
     let row = find((s.row % 256) as u64 * 36028797018963968 + w.value % 36028797018963968);
-    let mut t = s;
-    t.understood = false;
-    t.more = w.good & !(row == 0);
-    t.row = row;
-    t.sorts = sorts_of(row);
-    t.at = w.at;
-    t.end = w.end;
-    t
+    Line {
+        understood: false,
+        more: w.good & (row != 0),
+        row,
+        sorts: sorts_of(row),
+        at: w.at,
+        end: w.end,
+        ..s
+    }
 }
 
 // Behind another word.
 fn valued(s: Line, w: Word) -> Line
     ensures { ((l k : List ℕ) → gathered result l ≡ rule.valued (gathered s k) (word_of w l)) × (result.at ≡ w.at) × (result.end ≡ w.end) }
 {
-    let mut t = s;
     let i = s.count % VALUES;
-    t.understood = false;
-    t.more = w.good;
-    t.sorts = s.sorts / 64;
-    t.values[i] = w.value;
-    t.count = i + 1;
-    t.at = w.at;
-    t.end = w.end;
-    t
+    let mut values = s.values;
+    values[i] = w.value;
+    Line {
+        understood: false,
+        more: w.good,
+        sorts: s.sorts / 64,
+        values,
+        count: i + 1,
+        at: w.at,
+        end: w.end,
+        ..s
+    }
 }
 
 // Behind a word of a sort.
 fn worded(s: Line, sort: u8, w: Word) -> Line
     ensures { ((l k : List ℕ) → gathered result l ≡ rule.worded (gathered s k) sort (word_of w l)) × (result.at ≡ w.at) × (result.end ≡ w.end) }
 {
-    if sort == 1 {
-        return named(s, w);
+    if sort == NAME {
+        named(s, w)
+    } else {
+        valued(s, w)
     }
-    valued(s, w)
 }
 
 // One word more.
@@ -156,26 +164,28 @@ fn step(s: Line, line: &mut [u8]) -> Line
     let sort = (s.sorts % 64) as u8;
     let at = skip(line, s.at);
     let last = is_last(line, at);
-    if last | (sort == 0) | (sort == 15) {
-        let lacks = sort / 16 % 2 == 1;
-        return closed(s, (sort == 15) | (((sort == 0) | lacks) & last), at);
+    if last | (sort == END) | (sort == SLOT_PARTS) {
+        let may_lack = sort / 16 % 2 == 1;
+        let good = (sort == SLOT_PARTS) | (((sort == END) | may_lack) & last);
+        return closed(s, good, at);
     }
     let w = word_read(sort, line, at, s.end);
     worded(s, sort, w)
 }
+
+// More words than a line has, which are fifteen at most.
+const WORDS: usize = 16;
 
 // Reads a line.
 pub fn read(line: &mut [u8]) -> Line
     ensures { Reads result line.old line.new }
 {
     let mut s = start();
-    let mut k: usize = 0;
-    while k < 16 {
+    for _ in 0..WORDS {
         if !s.more {
             return s;
         }
         s = step(s, line);
-        k += 1;
     }
     s
 }
@@ -185,118 +195,98 @@ pub fn is_silent(line: &[u8]) -> bool
     ensures { result ≡ silent line.now }
 {
     let at = skip(line, 0);
-    if at < line.len() {
-        return line[at] == 35;
-    }
-    true
+    line.len() <= at || line[at] == b'#'
 }
 
 // ---- the parts of a slot
-// What a word says of a part, `NUMBER:LENGTH` or `NUMBER=LENGTH`, and the place behind it.
+// How many parts a slot has.
+const PARTS: usize = 16;
+
+// What a word says of a part, `NUMBER:LENGTH` or `NUMBER=LENGTH`: which of the slot's parts it is, counted from 0, whether it is held, its length,
+// and the place behind the word.
 #[derive(Clone, Copy)]
 struct Part {
-    good: bool,
+    index: usize,
     held: bool,
-    number: u64,
-    length: u64,
+    length: u8,
     at: usize,
-}
-
-fn no_part(at: usize) -> Part {
-    Part {
-        good: false,
-        held: false,
-        number: 0,
-        length: 0,
-        at: at,
-    }
+    ghost one_of_the_slot: { index < 16 },
 }
 
 // Whether there is no word from a place on.
 fn is_done(line: &[u8], from: usize) -> bool {
-    if line.len() < from {
-        return true;
-    }
-    is_last(line, skip(line, from))
+    line.len() < from || is_last(line, skip(line, from))
 }
 
-// The length at a place, behind a part's number.
-fn with_length(line: &[u8], at: usize, number: u64, held: bool) -> Part {
-    if line.len() < at {
-        return no_part(at);
-    }
-    let length = number_at(line, at, false, 255);
-    let some = (number != 0) & (length.at != at) & (length.value <= 255);
-    Part {
-        good: some & is_end(line, length.at),
-        held: held,
-        number: number,
-        length: length.value,
-        at: length.at,
-    }
-}
-
-// The next part from a place on.
-fn part_at(line: &[u8], from: usize) -> Part {
+// The next part from a place on, if the word there says one.
+fn part_at(line: &[u8], from: usize) -> Option<Part> {
     if line.len() < from {
-        return no_part(from);
+        return None;
     }
     let number = number_at(line, skip(line, from), false, 16);
-    let at = number.at;
-    if at < line.len() {
-        let mark = line[at];
-        if (number.value <= 16) & ((mark == 58) | (mark == 61)) {
-            return with_length(line, at + 1, number.value, mark == 58);
-        }
+    let held = match *line.get(number.at)? {
+        b':' => true,
+        b'=' => false,
+        _ => return None,
+    };
+    if (number.value == 0) | (16 < number.value) {
+        return None;
     }
-    no_part(at)
+    let behind = number.at + 1;
+    let length = number_at(line, behind, false, 255);
+    if (length.at == behind) | !is_end(line, length.at) {
+        return None;
+    }
+    Some(Part {
+        index: (number.value - 1) as usize,
+        held,
+        length: u8::try_from(length.value).ok()?,
+        at: length.at,
+    })
 }
 
-// How many parts a slot has.
-const PARTS: usize = 16;
-
-// The parts read so far, and which numbers were given.
+// The parts read so far, and which of them were given. They are arrays side by side since a slot has its lengths and what it holds so.
 #[derive(Clone, Copy)]
 pub struct Parts {
-    pub understood: bool,
     pub lengths: [u8; PARTS],
     pub held: [bool; PARTS],
     given: [bool; PARTS],
 }
 
-// One part more; a number counts once.
-fn with_part(p: Parts, part: Part) -> Parts {
-    let mut q = p;
-    let i = ((part.number % 32 + 15) % 16) as usize;
-    q.understood = part.good & !p.given[i];
-    q.given[i] = true;
-    q.held[i] = part.held;
-    q.lengths[i] = (part.length % 256) as u8;
-    q
-}
-
-fn no_parts() -> Parts {
-    Parts {
-        understood: true,
-        lengths: [0; PARTS],
-        held: [false; PARTS],
-        given: [false; PARTS],
-    }
-}
-
-// The parts from a place on: no more than there are numbers.
-pub fn parts_in(line: &[u8], from: usize) -> Parts {
-    let mut p = no_parts();
-    let mut at = from;
-    let mut i: usize = 0;
-    while i < PARTS + 1 {
-        if is_done(line, at) | !p.understood {
-            return p;
+impl Parts {
+    fn none() -> Self {
+        Parts {
+            lengths: [0; PARTS],
+            held: [false; PARTS],
+            given: [false; PARTS],
         }
-        let part = part_at(line, at);
-        at = part.at;
-        p = with_part(p, part);
-        i += 1;
     }
-    p
+
+    // One part more; none if it was given before.
+    fn with(mut self, part: Part) -> Option<Self> {
+        let i = part.index;
+        if self.given[i] {
+            return None;
+        }
+        self.given[i] = true;
+        self.held[i] = part.held;
+        self.lengths[i] = part.length;
+        Some(self)
+    }
+}
+
+// The parts from a place on, if each word there says one and none is given twice. A slot has so many parts, so that the last turn finds the line's
+// end, or a part that was given before.
+pub fn parts_in(line: &[u8], from: usize) -> Option<Parts> {
+    let mut parts = Parts::none();
+    let mut at = from;
+    for _ in 0..=PARTS {
+        if is_done(line, at) {
+            return Some(parts);
+        }
+        let part = part_at(line, at)?;
+        at = part.at;
+        parts = parts.with(part)?;
+    }
+    None
 }

@@ -2,8 +2,5 @@
 use Rattle.words.proofs.Steps.{steps}
 use Rattle.words.proofs.is_end.Goals as goal
 
-pub returns-then-at-line : goal.returns-then-at-line
-returns-then-at-line c = search steps
-
 pub returns : goal.returns
 returns c = search steps

@@ -2,8 +2,8 @@
 use Rattle.words.proofs.Steps.{steps}
 use Rattle.words.proofs.octet_of.Goals as goal
 
-pub returns-then-is_hex : goal.returns-then-is_hex
-returns-then-is_hex c = search steps
+pub returns-then-is_ascii_hexdigit : goal.returns-then-is_ascii_hexdigit
+returns-then-is_ascii_hexdigit c = search steps
 
-pub returns : goal.returns
-returns c = search steps
+pub returns-else-is_ascii_hexdigit : goal.returns-else-is_ascii_hexdigit
+returns-else-is_ascii_hexdigit c = search steps

@@ -5,5 +5,5 @@ use Rattle.words.proofs.octets_at.Goals as goal
 pub returns-then-line-from-eq45 : goal.returns-then-line-from-eq45
 returns-then-line-from-eq45 c = search steps
 
-pub returns : goal.returns
-returns c = search steps
+pub returns-else-line-from-eq45 : goal.returns-else-line-from-eq45
+returns-else-line-from-eq45 c = search steps

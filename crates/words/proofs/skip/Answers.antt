@@ -1,11 +1,9 @@
+-- The first character that is no blank is where the blanks end. Assumes nothing.
 use Rattle.words.proofs.Steps.{steps}
 use Rattle.words.proofs.skip.Goals as goal
 
-pub returns-then-not-is_blank-clause-line_value : goal.returns-then-not-is_blank-clause-line_value
-returns-then-not-is_blank-clause-line_value c = search steps
+pub returns-in-Some-clause-line_value : goal.returns-in-Some-clause-line_value
+returns-in-Some-clause-line_value c = search steps
 
-pub loop-at-preserved : goal.loop-at-preserved
-loop-at-preserved c = search steps
-
-pub returns-clause-line_value : goal.returns-clause-line_value
-returns-clause-line_value c = search steps
+pub returns-in-None-clause-line_value : goal.returns-in-None-clause-line_value
+returns-in-None-clause-line_value c = search steps

@@ -2,8 +2,8 @@
 use Rattle.words.proofs.Steps.{steps}
 use Rattle.words.proofs.line.is_silent.Goals as goal
 
-pub returns-then-at-line : goal.returns-then-at-line
-returns-then-at-line c = search steps
+pub returns-then-line-at : goal.returns-then-line-at
+returns-then-line-at c = search steps
 
-pub returns : goal.returns
-returns c = search steps
+pub returns-else-line-at : goal.returns-else-line-at
+returns-else-line-at c = search steps

@@ -4,8 +4,8 @@ use Rattle.words.proofs.line.read.Goals as goal
 pub returns-then-not-s : goal.returns-then-not-s
 returns-then-not-s c = search steps
 
-pub loop-k-preserved : goal.loop-k-preserved
-loop-k-preserved c = search steps
+pub loop-preserved : goal.loop-preserved
+loop-preserved c = search steps
 
 pub returns : goal.returns
 returns c = search steps

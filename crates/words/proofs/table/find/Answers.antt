@@ -1,11 +1,6 @@
+-- A row is found among the rows as its key is among the keys. Assumes nothing.
 use Rattle.words.proofs.Steps.{steps}
 use Rattle.words.proofs.table.find.Goals as goal
-
-pub returns-then-key_at-key : goal.returns-then-key_at-key
-returns-then-key_at-key c = search steps
-
-pub loop-i-preserved : goal.loop-i-preserved
-loop-i-preserved c = search steps
 
 pub returns : goal.returns
 returns c = search steps
