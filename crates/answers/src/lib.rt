@@ -5,19 +5,19 @@ pub mod record;
 
 ghost use Rattle.std.specs.Prelude.{◌<◌};
 
-use values::rows::Row;
+use types::{Cntr, Spi, Tar};
+use values::rows::{Buffer, Row, Value};
 
 // ---- pieces
 // Puts a piece at a place and says where the text then ends.
 pub fn say(piece: &[u8], text: &mut [u8], at: usize) -> usize {
-    if text.len() < at {
+    let Some(end) = at.checked_add(piece.len()) else {
         return at;
-    }
-    if text.len() - at < piece.len() {
+    };
+    let Some(place) = text.get_mut(at..end) else {
         return at;
-    }
-    let end = at + piece.len();
-    text[at..end].copy_from_slice(piece);
+    };
+    place.copy_from_slice(piece);
     end
 }
 
@@ -30,70 +30,39 @@ pub fn end(text: &mut [u8], at: usize) -> usize {
 fn digit(v: u8) -> u8
     requires { v < 16 }
 {
-    if v < 10 { v + 48 } else { v + 55 }
+    if v < 10 { b'0' + v } else { b'A' + (v - 10) }
 }
 
 // Octets as digits, two each.
 fn pairs(octets: &[u8], text: &mut [u8], at: usize) -> usize {
-    if text.len() < at {
+    if text.len().saturating_sub(at) / 2 < octets.len() {
         return at;
     }
-    if (text.len() - at) / 2 < octets.len() {
-        return at;
-    }
-    let mut i = 0;
     let mut to = at;
-    while i < octets.len() {
-        let x = octets[i];
-        text[to] = digit(x / 16);
-        text[to + 1] = digit(x % 16);
-        to += 2;
-        i += 1;
+    for x in octets {
+        to = say(&[digit(*x / 16), digit(*x % 16)], text, to);
     }
     to
 }
 
 // Octets, `-` for none.
 fn field(octets: &[u8], text: &mut [u8], at: usize) -> usize {
-    if octets.len() == 0 {
+    if octets.is_empty() {
         return say(b"-", text, at);
     }
     pairs(octets, text, at)
 }
 
-// Octet i of a number, counted from the low end.
-fn octet(n: u64, scale: u64) -> u8
-    requires { 0 < scale }
-{
-    (n / scale % 256) as u8
-}
-
-// The last octets of a number, up to five.
-fn hex(n: u64, count: usize, text: &mut [u8], at: usize) -> usize {
-    let octets = [
-        octet(n, 4294967296),
-        octet(n, 16777216),
-        octet(n, 65536),
-        octet(n, 256),
-        octet(n, 1),
-    ];
-    field(part(&octets, 5 - count % 6, 5), text, at)
-}
-
 // A number in decimal, with as few digits as hold it.
 pub fn number(n: u64, text: &mut [u8], at: usize) -> usize {
-    let mut figures = [0u8; 20];
-    let mut n = n;
-    let mut i = 20;
-    while 0 < i {
-        i -= 1;
-        figures[i] = 48 + (n % 10) as u8;
-        n = n / 10;
-        if n == 0 {
-            return say(&figures[i..], text, at);
-        }
+    let mut figures = [b'0'; 20];
+    let mut rest = n;
+    for figure in figures.iter_mut().rev() {
+        *figure = b'0' + (rest % 10) as u8;
+        rest /= 10;
     }
-    say(&figures, text, at)
+    let first = figures.iter().position(|x| *x != b'0').unwrap_or(19);
+    say(&figures[first..], text, at)
 }
 
 // A blank and a number.
@@ -102,98 +71,67 @@ fn count(n: u64, text: &mut [u8], at: usize) -> usize {
     number(n, text, at)
 }
 
-// A name, of up to twelve letters.
-pub fn letters(name: u64, text: &mut [u8], at: usize) -> usize {
-    let mut word = [0u8; 12];
-    let mut n = name;
-    let mut i = 12;
-    while 0 < i {
-        if n == 0 {
-            return say(&word[i..], text, at);
-        }
-        i -= 1;
-        word[i] = 96 + (n % 32) as u8;
-        n = n / 32;
-    }
-    say(&word, text, at)
-}
-
 // So many octets from a place on; fewer if there are not so many.
 fn part(octets: &[u8], from: usize, count: usize) -> &[u8] {
-    if octets.len() < from {
-        return &octets[..0];
-    }
-    if octets.len() - from < count {
-        return &octets[from..];
-    }
-    let end = from + count;
-    &octets[from..end]
+    let rest = octets.get(from..).unwrap_or(&[]);
+    rest.get(..count).unwrap_or(rest)
 }
 
 // ---- a row
-// A number by its sort.
-fn numeral(sort: u8, v: u64, text: &mut [u8], at: usize) -> usize {
-    if sort < 6 {
-        return hex(v, sort as usize, text, at);
-    }
-    if sort == 6 {
-        return number(v, text, at);
-    }
-    letters(v, text, at)
+// The buffers that the values of a row are of.
+#[derive(Clone, Copy)]
+pub struct Buffers<'a> {
+    pub first: &'a [u8],
+    pub second: &'a [u8],
+    pub third: &'a [u8],
 }
 
-// Octets by their sort, before some how many they are.
-fn run(sort: u8, v: u64, octets: &[u8], text: &mut [u8], at: usize) -> usize {
-    if sort < 12 {
-        let at = number(v, text, at);
-        let at = say(b" ", text, at);
-        return field(part(octets, 0, v as usize), text, at);
+impl<'a> Buffers<'a> {
+    // One octet string for all three.
+    pub fn all(octets: &'a [u8]) -> Buffers<'a> {
+        Buffers {
+            first: octets,
+            second: octets,
+            third: octets,
+        }
     }
-    let run = part(octets, (v / 65536) as usize, (v % 65536) as usize);
-    field(run, text, at)
+
+    fn octets(self, of: Buffer) -> &'a [u8] {
+        match of {
+            Buffer::First => self.first,
+            Buffer::Second => self.second,
+            Buffer::Third => self.third,
+        }
+    }
 }
 
-// One of three buffers.
-fn buffer<'a>(sort: u8, a: &'a [u8], b: &'a [u8], c: &'a [u8]) -> &'a [u8] {
-    if sort % 4 == 0 {
-        return a;
+// A value behind a name.
+fn value(v: Value, buffers: Buffers<'_>, text: &mut [u8], at: usize) -> usize {
+    match v {
+        Value::Octet(x) => pairs(&[x], text, at),
+        Value::Pair(n) => pairs(&n.to_be_bytes(), text, at),
+        Value::Sender(n) => pairs(&n.to_be_bytes(), text, at),
+        Value::Spi(Spi(a, b)) => pairs(&[a, b], text, at),
+        Value::Tar(Tar(a, b, c)) => pairs(&[a, b, c], text, at),
+        Value::Cntr(Cntr(a, b, c, d, e)) => pairs(&[a, b, c, d, e], text, at),
+        Value::Number(n) => number(n, text, at),
+        Value::Name(name) => say(name.as_bytes(), text, at),
+        Value::Whole(of) => field(buffers.octets(of), text, at),
+        Value::Part { of, from, count } => field(part(buffers.octets(of), from, count), text, at),
+        Value::Start { of, count } => {
+            let at = number(count as u64, text, at);
+            let at = say(b" ", text, at);
+            field(part(buffers.octets(of), 0, count), text, at)
+        }
     }
-    if sort % 4 == 1 {
-        return b;
-    }
-    c
-}
-
-// A blank and a piece of a row.
-fn piece(sort: u8, v: u64, octets: &[u8], text: &mut [u8], at: usize) -> usize {
-    let at = say(b" ", text, at);
-    if sort < 8 {
-        return numeral(sort, v, text, at);
-    }
-    run(sort, v, octets, text, at)
 }
 
 // Prints a row behind what stands in the text up to `at`, with octets of three buffers.
-pub fn print<'a>(
-    row: Row,
-    a: &'a [u8],
-    b: &'a [u8],
-    c: &'a [u8],
-    text: &mut [u8],
-    at: usize,
-) -> usize {
-    let mut at = letters(row.name, text, at);
-    let values = row.values;
-    let mut sorts = row.sorts;
-    let mut k = 0;
-    while k < 8 {
-        let sort = (sorts % 16) as u8;
-        if sort == 0 {
-            return at;
-        }
-        at = piece(sort, values[k], buffer(sort, a, b, c), text, at);
-        sorts = sorts / 16;
-        k += 1;
+pub fn print(row: Row, buffers: Buffers<'_>, text: &mut [u8], at: usize) -> usize {
+    let mut at = say(row.name.as_bytes(), text, at);
+    for v in row.values.iter().flatten() {
+        at = say(b" ", text, at);
+        at = value(*v, buffers, text, at);
     }
     at
 }

@@ -1,33 +1,17 @@
 // What a record and the tables hold, as `record`, `slot`, `counters` and `outstanding` print it.
-ghost use Rattle.std.specs.Prelude.{◌≤◌, ◌<◌};
+ghost use Rattle.std.specs.Prelude.{◌<◌};
 
-use crate::{number, say};
-use types::{COUNTER_ENTRIES, OUTSTANDING_ENTRIES, PARTS, SLOTS, Slot};
+use crate::{Buffers, number, say};
+use types::{PARTS, Slot};
 use values::rows;
+use values::rows::{Row, Value};
 
 // Prints a row that has no octets of buffers.
-pub fn alone(row: rows::Row, text: &mut [u8], at: usize) -> usize {
-    let none = [0u8; 0];
-    crate::print(row, &none, &none, &none, text, at)
-}
-
-// How many are printed of what a number says: no more than there are.
-fn printed(n: u8, most: usize) -> usize
-    ensures { result ≤ most }
-{
-    if most < n as usize {
-        return most;
-    }
-    n as usize
+pub fn alone(row: Row, text: &mut [u8], at: usize) -> usize {
+    crate::print(row, Buffers::all(&[]), text, at)
 }
 
 // ---- slots
-// `:` behind the number of a part that is held, `=` behind that of another.
-fn mark(held: bool, text: &mut [u8], at: usize) -> usize {
-    let mark = [if held { 58u8 } else { 61u8 }];
-    say(&mark, text, at)
-}
-
 // ` NUMBER:LENGTH` of a part that is held, ` NUMBER=LENGTH` of a length that is not, and nothing of neither.
 fn part(held: bool, place: usize, length: u8, text: &mut [u8], at: usize) -> usize
     requires { place < 16 }
@@ -36,47 +20,31 @@ fn part(held: bool, place: usize, length: u8, text: &mut [u8], at: usize) -> usi
         return at;
     }
     let at = crate::count(place as u64 + 1, text, at);
-    let at = mark(held, text, at);
+    let at = say(if held { b":" } else { b"=" }, text, at);
     number(length as u64, text, at)
 }
 
-// ` RANK BEATS SENDER WIDTH REFERENCE SERIAL IDENTIFIER TOTAL`.
-fn head(x: Slot, text: &mut [u8], at: usize) -> usize {
-    let at = alone(rows::two(0, 0x66, x.rank as u64, x.beats as u64), text, at);
-    let key = rows::keyed(0, 0x622664, x.key, x.total, 0, 0);
-    alone(key, text, at)
-}
-
-// The same, and each part.
+// ` RANK BEATS SENDER WIDTH REFERENCE SERIAL IDENTIFIER TOTAL`, and each part.
 pub fn slot(x: Slot, text: &mut [u8], at: usize) -> usize {
-    let mut at = head(x, text, at);
-    let lengths = x.lengths;
-    let held = x.held;
-    let mut i = 0;
-    while i < PARTS {
-        at = part(held[i], i, lengths[i], text, at);
-        i += 1;
+    let mut at = alone(rows::slot(x), text, at);
+    for i in 0..PARTS {
+        at = part(x.held[i], i, x.lengths[i], text, at);
     }
     at
 }
 
 // `slot I` and what it then holds.
 pub fn slot_at(i: usize, x: Slot, text: &mut [u8], at: usize) -> usize {
-    let at = alone(rows::one(rows::SLOT, 6, i as u64), text, at);
+    let at = alone(Row::new("slot", &[Value::Number(i as u64)]), text, at);
     slot(x, text, at)
 }
 
 // `record KIND`, and `; SLOT` for each slot.
 pub fn record(r: types::Record, text: &mut [u8], at: usize) -> usize {
-    let kind = r.kind;
-    let mut at = alone(rows::head(kind), text, at);
-    let slots = r.slots;
-    let n = printed(r.count, SLOTS);
-    let mut i = 0;
-    while i < n {
+    let mut at = alone(rows::head(r.kind), text, at);
+    for x in r.slots.iter().take(r.count as usize) {
         at = say(b";", text, at);
-        at = slot(slots[i], text, at);
-        i += 1;
+        at = slot(*x, text, at);
     }
     at
 }
@@ -84,14 +52,14 @@ pub fn record(r: types::Record, text: &mut [u8], at: usize) -> usize {
 // ---- counters
 // `counters N`, and `; TAR CNTR` for each entry that is in use.
 pub fn counters(c: types::Counters, text: &mut [u8], at: usize) -> usize {
-    let mut at = alone(rows::one(rows::COUNTERS, 6, c.count as u64), text, at);
-    let entries = c.entries;
-    let n = printed(c.count, COUNTER_ENTRIES);
-    let mut i = 0;
-    while i < n {
+    let mut at = alone(
+        Row::new("counters", &[Value::Number(c.count as u64)]),
+        text,
+        at,
+    );
+    for e in c.entries.iter().take(c.count as usize) {
         at = say(b";", text, at);
-        at = alone(rows::entry(entries[i]), text, at);
-        i += 1;
+        at = alone(rows::entry(*e), text, at);
     }
     at
 }
@@ -99,14 +67,14 @@ pub fn counters(c: types::Counters, text: &mut [u8], at: usize) -> usize {
 // ---- outstanding commands
 // `outstanding N`, and `; SENDER TAR CNTR` for each entry that is in use.
 pub fn outstanding(t: types::Outstanding, text: &mut [u8], at: usize) -> usize {
-    let mut at = alone(rows::one(rows::OUTSTANDING, 6, t.count as u64), text, at);
-    let entries = t.entries;
-    let n = printed(t.count, OUTSTANDING_ENTRIES);
-    let mut i = 0;
-    while i < n {
+    let mut at = alone(
+        Row::new("outstanding", &[Value::Number(t.count as u64)]),
+        text,
+        at,
+    );
+    for c in t.entries.iter().take(t.count as usize) {
         at = say(b";", text, at);
-        at = alone(rows::command_sent(entries[i]), text, at);
-        i += 1;
+        at = alone(rows::command_sent(*c), text, at);
     }
     at
 }

@@ -1,4 +1,8 @@
 -- What the proofs of `values` cite: one law for each return, over plain variables.
+use Rattle.std.specs.declared.result.Result.{Result}
+use Rattle.std.specs.declared.option.Option as option
+use Rattle.std.specs.declared.option.Option.TheVariants.{Some, None}
+use Rattle.types.specs.declared.Refusal.{Refusal}
 use Prim.Native.Nat.{ℕ, ◌+◌, ◌*◌, ◌%◌, ◌≤◌, ◌<◌}
 use mathlib.Core.Path.{◌≡◌, sym, ap, ◌∙◌}
 use mathlib.Core.Bool.{not, cond, ◌&&◌, ◌||◌}
@@ -15,10 +19,9 @@ use Rattle.types.specs.declared.CounterEntry.{CounterEntry}
 use Rattle.types.specs.declared.JudgedCounter.{JudgedCounter}
 use Rattle.types.specs.declared.SentCommand.{SentCommand}
 use Rattle.types.specs.declared.Outstanding.{Outstanding}
-use Rattle.types.specs.declared.Sending.{Sending}
 use Rattle.types.specs.declared.Closing.{Closing}
 use Rattle.types.specs.declared.Captured.{Captured}
-use Rattle.types.specs.declared.Captured.TheVariants.{UserData, Page, Unsound}
+use Rattle.types.specs.declared.Captured.TheVariants.{UserData, Page}
 use Rattle.skelmarix.specs.Rules.{number_of, Assessed, assessed, told_judgement, judge_counter, sent_command, Fate, Settled, settled, told_sending, told_closing, command_sent, response_came, record_in}
 use Rattle.values.specs.Fields.{sender_of, tar_of, cntr_of}
 use Rattle.values.specs.Meaning as meaning
@@ -67,11 +70,11 @@ pub command_told : (o a d : List ℕ) (s : ℕ) (t : Tar) (n : Cntr) → s ≡ s
     → record { sender = s; tar = t; cntr = n } ≡ rule.command_of o
 command_told o a d s t n e f g h i = rw (e, h, i, f, g)
 
-pub sent_told : (t u : Outstanding) (o : List ℕ) (c : SentCommand) (a : Sending) → c ≡ rule.command_of o
+pub sent_told : (t u : Outstanding) (o : List ℕ) (c : SentCommand) (a : Result Unit Refusal) → c ≡ rule.command_of o
     → settled (told_sending a) u ≡ command_sent t (sent_command c.sender c.tar c.cntr) → u ≡ (command_sent t (rule.command_of o)).1
 sent_told t u o c a e f = ap (λ (x : Settled Unit). x.1) (rw e at f)
 
-pub came_told : (t u : Outstanding) (o p : List ℕ) (s : ℕ) (a : Closing) → s ≡ sender_of o → p ≡ drop 4 o
+pub came_told : (t u : Outstanding) (o p : List ℕ) (s : ℕ) (a : Result Closing Refusal) → s ≡ sender_of o → p ≡ drop 4 o
     → settled (told_closing a) u ≡ response_came t s p → u ≡ (response_came t (sender_of o) (drop 4 o)).1
 came_told t u o p s a e f g = ap (λ (x : Settled Fate). x.1) (rw (e, f) at g)
 
@@ -103,17 +106,17 @@ pub way_row : (row : ℕ) (octets : List ℕ) → (row ≡ 60 → ⊥) → row �
 way_row row octets z = rw (ne_eqb row 60 z)
 
 module _ (row : ℕ) (octets own : List ℕ) where
-  module _ (x : Captured) (e : row ≡ 60) (f : own ≡ drop 4 octets) (g : x ≡ record_in own) where
+  module _ (x : option.Option Captured) (e : row ≡ 60) (f : own ≡ drop 4 octets) (g : x ≡ record_in own) where
     way_captured : meaning.captured_way row x ≡ meaning.way_of row octets
     way_captured = rw (eq-eqb row 60 e, ← f, ← g)
 
-    pub way_message : (start : ℕ) → x ≡ UserData start → 1 ≡ meaning.way_of row octets
+    pub way_message : (start : ℕ) → x ≡ Some (UserData start) → 1 ≡ meaning.way_of row octets
     way_message start h = rw h at way_captured
 
-    pub way_page : (start : ℕ) → x ≡ Page start → 2 ≡ meaning.way_of row octets
+    pub way_page : (start : ℕ) → x ≡ Some (Page start) → 2 ≡ meaning.way_of row octets
     way_page start h = rw h at way_captured
 
-    pub way_unsound : x ≡ Unsound → row ≡ meaning.way_of row octets
+    pub way_unsound : x ≡ None → row ≡ meaning.way_of row octets
     way_unsound h = rw h at way_captured
 
 pub own_captured : (row : ℕ) → row ≡ 60 → 8 ≡ meaning.own_at row

@@ -1,14 +1,16 @@
 -- What a line that was read means: which call takes its octets, how many slots it asks for, and whether its words can be meant together.
+use Rattle.std.specs.declared.option.Option as option
+use Rattle.std.specs.declared.option.Option.TheVariants.{Some, None}
 use Rattle.std.specs.Prelude.{ℕ, ◌+◌, min, Bool, not, cond, ◌&&◌, ◌||◌, List, eqb, ltb, length, drop}
 use Rattle.types.specs.declared.Captured.{Captured}
-use Rattle.types.specs.declared.Captured.TheVariants.{UserData, Page, Unsound}
+use Rattle.types.specs.declared.Captured.TheVariants.{UserData, Page}
 use Rattle.skelmarix.specs.Rules.{default_slots, record_head, record_in}
 
 -- row 1 `message SENDER UD`, row 2 `page PAGE`, row 60 `captured SENDER RECORD`: a message or a page, as the record of the capture is one
-abbrev pub captured_way : ℕ → Captured → ℕ
-captured_way row (UserData start) = 1
-captured_way row (Page start) = 2
-captured_way row Unsound = row
+abbrev pub captured_way : ℕ → option.Option Captured → ℕ
+captured_way row (Some (UserData start)) = 1
+captured_way row (Some (Page start)) = 2
+captured_way row None = row
 
 abbrev pub way_of : ℕ → List ℕ → ℕ
 way_of row octets = cond (eqb row 60) (captured_way row (record_in (drop 4 octets))) row

@@ -6,6 +6,7 @@ ghost use Rattle.values.specs.Tables.{command_of, table_written, commands_after}
 
 use crate::fields::{cntr_of, sender_of, tar_of};
 use crate::rows;
+use crate::rows::Row;
 use skelmarix::own_octets;
 use types::{Outstanding, SentCommand};
 use words::table;
@@ -14,7 +15,7 @@ use words::table;
 #[derive(Clone, Copy)]
 pub struct Left {
     pub outstanding: Outstanding,
-    pub row: rows::Row,
+    pub row: Row,
 }
 
 // SENDER, TAR and CNTR are the twelve octets of the line.
@@ -84,6 +85,6 @@ pub fn after(row: usize, count: usize, n: usize, octets: &[u8], t: Outstanding) 
     }
     Left {
         outstanding: written(count, n, command_of(octets), t),
-        row: rows::plain(rows::OUTSTANDING),
+        row: Row::new("outstanding", &[]),
     }
 }

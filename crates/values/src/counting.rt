@@ -41,7 +41,7 @@ fn unjudged(c: Counters) -> JudgedCounter
     ensures { result.counters ≡ c }
 {
     JudgedCounter {
-        answer: types::Judgement::Status(0),
+        answer: Ok(0),
         counters: c,
     }
 }

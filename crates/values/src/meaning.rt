@@ -13,9 +13,9 @@ pub fn way_of(row: usize, octets: &[u8]) -> usize
         return row;
     }
     match skelmarix::read_captured(skelmarix::own_octets(octets, 4)) {
-        types::Captured::UserData { start } => 1,
-        types::Captured::Page { start } => 2,
-        types::Captured::Unsound => row,
+        Some(types::Captured::UserData { start }) => 1,
+        Some(types::Captured::Page { start }) => 2,
+        None => row,
     }
 }
 

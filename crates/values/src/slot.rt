@@ -22,7 +22,7 @@ pub fn slot_of(values: [u64; VALUES], fields: &[u8], p: words::line::Parts) -> S
         beats: (values[2] % 256) as u8,
         key: key_of(values, fields),
         total: (values[8] % 256) as u8,
-        lengths: lengths,
-        held: held,
+        lengths,
+        held,
     }
 }
