@@ -1,5 +1,6 @@
 // What is printed of a line, once what is kept is changed.
 use crate::shows;
+use answers::Buffers;
 use changes::Made;
 use words::line::Line;
 
@@ -23,5 +24,10 @@ pub(crate) fn say<'a>(
     let lent = made.bench.lent;
     let row = values::part::part_or(l, made.row);
     let row = lines::answer_row(l, octets, row, lent[2], buffer);
-    answers::print(row, cells, output, buffer, text, at)
+    let buffers = Buffers {
+        first: cells,
+        second: output,
+        third: buffer,
+    };
+    answers::print(row, buffers, text, at)
 }

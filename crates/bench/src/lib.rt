@@ -29,7 +29,7 @@ pub(crate) fn answered(b: Bench, end: usize) -> Heard
     Heard {
         bench: b,
         understood: true,
-        end: end,
+        end,
     }
 }
 

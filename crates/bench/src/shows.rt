@@ -2,16 +2,7 @@
 use answers::record;
 use changes::Bench;
 use values::rows;
-use values::rows::Row;
 use words::table;
-
-// Whether the record is well formed.
-fn formed(r: types::Record) -> Row {
-    if skelmarix::record_formed(r) {
-        return rows::plain(rows::YES);
-    }
-    rows::plain(rows::NO)
-}
 
 // Whether the answer to a line is what is kept: the record, or a table.
 pub(crate) fn is_shown(row: usize) -> bool {
@@ -27,7 +18,8 @@ pub(crate) fn kept(row: usize, b: Bench, text: &mut [u8], at: usize) -> usize {
         return record::record(b.record, text, at);
     }
     if row < table::CELLS {
-        return record::alone(formed(b.record), text, at);
+        let formed = rows::whether(skelmarix::record_formed(b.record));
+        return record::alone(formed, text, at);
     }
     if row == table::OUTSTANDING {
         return record::outstanding(b.outstanding, text, at);

@@ -37,11 +37,10 @@ fn put(b: Bench, i: usize, x: Slot, text: &mut [u8], at: usize) -> Heard
 pub fn slot_line(b: Bench, l: Line, line: &[u8], text: &mut [u8], at: usize) -> Heard
     ensures { SlotPut (gathered l line.now) b result }
 {
-    let parts = words::line::parts_in(line, l.at);
     let values = l.values;
     let i = crate::first(values);
     if i < types::SLOTS {
-        if parts.understood {
+        if let Some(parts) = words::line::parts_in(line, l.at) {
             return put(b, i, values::slot::slot_of(values, line, parts), text, at);
         }
     }

@@ -1,4 +1,6 @@
 -- What the proofs of `changes` cite: one law for each return, over plain variables.
+use Rattle.std.specs.declared.result.Result.{Result}
+use Rattle.std.specs.declared.result.Result.TheVariants.{Ok, Err}
 use Prim.Native.Nat.{ℕ, ◌-◌, ◌%◌, ◌≤◌, ◌<◌}
 use mathlib.Core.Path.{◌≡◌, refl, ap, ◌∙◌}
 use mathlib.Core.Bool.{Bool, true, false, ◌&&◌}
@@ -14,9 +16,6 @@ use Rattle.types.specs.declared.Record.{Record}
 use Rattle.types.specs.declared.Counters.{Counters}
 use Rattle.types.specs.declared.Outstanding.{Outstanding}
 use Rattle.types.specs.declared.Refusal.{Refusal}
-use Rattle.types.specs.declared.Beating.{Beating}
-use Rattle.types.specs.declared.Making.{Making}
-use Rattle.types.specs.declared.Making.TheVariants.{Fresh, Refused}
 use Rattle.types.specs.Refusals.{refused, gives}
 use Rattle.skelmarix.specs.Rules.{default_slots, is_slot_number, cells_size, Beside, beside, told_making, making, fresh_record, Answer, state, after, take_message, take_page, beaten, told_beating, beat, no_counters, no_commands}
 use Rattle.values.specs.Fields.{kind_by, sender_of}
@@ -63,8 +62,8 @@ module _ (k k' : Kind) (n : ℕ) (b c : Bench) (cells output cells' output' : Li
   answer_is (gives x, r) = true
   answer_is (refused m, r) = false
 
-  module _ (a : Making) (r : Record) (told : beside (told_making a) r ≡ making n k) where
-    pub fresh_made_lem : a ≡ Fresh → c ≡ rule.with_record b r → cells' ≡ replicate (length cells) 0 → output' ≡ replicate (length output) 0
+  module _ (a : Result Unit Refusal) (r : Record) (told : beside (told_making a) r ≡ making n k) where
+    pub fresh_made_lem : a ≡ (Ok tt) → c ≡ rule.with_record b r → cells' ≡ replicate (length cells) 0 → output' ≡ replicate (length output) 0
         → held c cells' output' ≡ rule.fresh_made k' n (held b cells output)
     fresh_made_lem e f g h = by_number (is_slot_number n) refl
       where
@@ -77,7 +76,7 @@ module _ (k k' : Kind) (n : ℕ) (b c : Bench) (cells output cells' output' : Li
             let z : answer_is (beside (told_making a) r) ≡ false = rw (told, t) in
             absurd (clash (answer_is (beside (told_making a) r)) (rw e) z)
 
-    pub fresh_refused : (q : Refusal) → a ≡ Refused q → held b cells output ≡ rule.fresh_made k' n (held b cells output)
+    pub fresh_refused : (q : Refusal) → a ≡ Err q → held b cells output ≡ rule.fresh_made k' n (held b cells output)
     fresh_refused q e = by_number (is_slot_number n) refl
       where
         by_number : (t : Bool) → is_slot_number n ≡ t → held b cells output ≡ rule.fresh_made k' n (held b cells output)
@@ -91,7 +90,7 @@ pub counted : (b c : Bench) (n : ℕ) (r : Record) → c ≡ rule.with_record b 
 counted b c n r e f = rw (e, f)
 
 -- ---- the beat
-pub beat_told : (b x : Bench) (limit : ℕ) (a : Beating) (r : Record) → x ≡ rule.with_record b r
+pub beat_told : (b x : Bench) (limit : ℕ) (a : Result ℕ Refusal) (r : Record) → x ≡ rule.with_record b r
     → beaten (told_beating a) r ≡ beat b.«record».count b.«record» limit → x ≡ rule.with_record b (beat b.«record».count b.«record» limit).rec
 beat_told b x limit a r e f = rw (← f) e
 

@@ -129,16 +129,16 @@ fn fresh(response: bool, n: u8, b: Bench, cells: &mut [u8], output: &mut [u8]) -
     let answer = m.answer;
     let after = m.record;
     match answer {
-        types::Making::Fresh => {
+        Ok(()) => {
             fill_both(0, cells, output);
             Made {
                 bench: with_record(b, after),
                 row: rows::made(answer),
             }
         }
-        types::Making::Refused(why) => Made {
+        Err(why) => Made {
             bench: b,
-            row: rows::made(types::Making::Refused(why)),
+            row: rows::made(Err(why)),
         },
     }
 }

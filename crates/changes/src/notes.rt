@@ -8,6 +8,7 @@ ghost use Rattle.changes.specs.Kept.{all_right, row_noted, lent_noted, now_numbe
 
 use crate::{Bench, Made, with_record};
 use values::rows;
+use values::rows::{Row, Value};
 use words::table;
 
 fn lend(b: Bench, i: usize, n: usize) -> Bench
@@ -72,17 +73,12 @@ fn note(row: usize, n: usize, b: Bench) -> Bench
 }
 
 // What a line answers that took nothing.
-fn answer_of(row: usize, n: usize) -> rows::Row {
-    if row == table::FILL {
-        return rows::plain(rows::FILLED);
-    }
-    if row == table::SLOTS {
-        return rows::one(rows::SLOTS, 6, n as u64);
-    }
-    if row == table::NUMBER {
-        rows::plain(rows::NUMBERED)
-    } else {
-        rows::plain(rows::LENT)
+fn answer_of(row: usize, n: usize) -> Row {
+    match row {
+        table::FILL => Row::new("filled", &[]),
+        table::SLOTS => Row::new("slots", &[Value::Number(n as u64)]),
+        table::NUMBER => Row::new("numbered", &[]),
+        _ => Row::new("lent", &[]),
     }
 }
 

@@ -10,7 +10,8 @@ ghost use Rattle.chosen.specs.Choices.{understood_by, engine_row, Begun, Unclear
 use others::CARD;
 use regions::{Chosen, FIRST, PLAIN, Told, outcome};
 use types::Kind;
-use values::{meaning, rows};
+use values::meaning;
+use values::rows::{Row, Value};
 use words::line::Line;
 use words::table;
 
@@ -79,19 +80,19 @@ fn engine_of(row: usize) -> usize
     row - table::ENGINE_FIRST
 }
 
-fn name_of(e: usize) -> u64 {
-    if e == FIRST {
-        return rows::FIRST;
+fn name_of(e: usize) -> &'static str {
+    match e {
+        FIRST => "first",
+        CARD => "card",
+        PLAIN => "plain",
+        _ => "both",
     }
-    if e == CARD {
-        return rows::CARD;
-    }
-    if e == PLAIN { rows::PLAIN } else { rows::BOTH }
 }
 
 // `engine` and its name.
 fn say_engine(e: usize, text: &mut [u8], at: usize) -> usize {
-    answers::record::alone(rows::one(rows::ENGINE, 7, name_of(e)), text, at)
+    let row = Row::new("engine", &[Value::Name(name_of(e))]);
+    answers::record::alone(row, text, at)
 }
 
 // An engine answers from now on, and each has a fresh record for commands, of five slots.

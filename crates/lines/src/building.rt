@@ -2,7 +2,7 @@
 ghost use Rattle.std.specs.Prelude.{◌≤◌};
 
 use skelmarix::{first_octets, own_octets};
-use types::{Clear, Written};
+use types::{Clear, Refusal};
 use values::fields::{cntr_of, octet, tar_of};
 use words::table;
 
@@ -16,7 +16,7 @@ fn clear_of(fields: &[u8]) -> Clear {
 }
 
 // SPI, KIC, KID, TAR, CNTR, PCNTR, CHECK and DATA, which begins at `data`; of a USSD string behind its PFI.
-fn plain_command(ussd: bool, fields: &[u8], data: usize, out: &mut [u8]) -> Written {
+fn plain_command(ussd: bool, fields: &[u8], data: usize, out: &mut [u8]) -> Result<usize, Refusal> {
     let rest = own_octets(fields, ussd as usize);
     let clear = clear_of(rest);
     let cntr = cntr_of(own_octets(rest, 7));
@@ -31,7 +31,7 @@ fn plain_command(ussd: bool, fields: &[u8], data: usize, out: &mut [u8]) -> Writ
 }
 
 // TAR, CNTR, PCNTR, STATUS, CHECK and DATA, which begins at `data`.
-fn plain_response(fields: &[u8], data: usize, out: &mut [u8]) -> Written {
+fn plain_response(fields: &[u8], data: usize, out: &mut [u8]) -> Result<usize, Refusal> {
     let check = own_octets(first_octets(fields, data), 10);
     skelmarix::build_response(
         tar_of(fields),
@@ -50,7 +50,12 @@ fn narrow(n: u64) -> u16 {
 }
 
 // SPI, KIC, KID, TAR and the opaque octets; of a USSD string behind its PFI.
-fn ciphered_command(ussd: bool, fields: &[u8], header: u64, out: &mut [u8]) -> Written {
+fn ciphered_command(
+    ussd: bool,
+    fields: &[u8],
+    header: u64,
+    out: &mut [u8],
+) -> Result<usize, Refusal> {
     let rest = own_octets(fields, ussd as usize);
     let clear = clear_of(rest);
     let opaque = own_octets(rest, 7);
@@ -60,7 +65,7 @@ fn ciphered_command(ussd: bool, fields: &[u8], header: u64, out: &mut [u8]) -> W
     skelmarix::build_ciphered_command(clear, narrow(header), opaque, out)
 }
 
-fn ciphered_response(fields: &[u8], header: u64, out: &mut [u8]) -> Written {
+fn ciphered_response(fields: &[u8], header: u64, out: &mut [u8]) -> Result<usize, Refusal> {
     let opaque = own_octets(fields, 3);
     skelmarix::build_ciphered_response(tar_of(fields), narrow(header), opaque, out)
 }
@@ -86,7 +91,7 @@ fn place(row: usize) -> usize
 }
 
 // Builds what a line asks for, with that number: where the data of a plain body begins, or the header length of a ciphered one.
-pub(crate) fn build(l: words::line::Line, fields: &[u8], out: &mut [u8]) -> Written {
+pub(crate) fn build(l: words::line::Line, fields: &[u8], out: &mut [u8]) -> Result<usize, Refusal> {
     let values = l.values;
     let n = values[place(l.row)];
     let row = l.row;

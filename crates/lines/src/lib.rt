@@ -61,26 +61,22 @@ fn right(row: usize) -> usize {
 pub fn fill(buffer: &mut [u8], x: u8)
     ensures { buffer.new ≡ replicate (length buffer.old) x }
 {
-    let mut i = 0;
-    while i < buffer.len() {
-        buffer[i] = x;
-        i += 1;
-    }
+    buffer.fill(x);
 }
 
 // What is built: a USSD string, or a packet.
-fn name_of(row: usize) -> u64 {
+fn name_of(row: usize) -> &'static str {
     if table::SUM_USSD < row {
-        rows::STRING
+        "string"
     } else {
-        rows::PACKET
+        "packet"
     }
 }
 
 // Makes what a line asks for at the start of what is lent of the buffer.
 fn made(l: Line, fields: &[u8], out: &mut [u8]) -> Row {
     if is_sum(l.row) {
-        return rows::written(rows::OCTETS, packets::sum(l.row, fields, out));
+        return rows::written("octets", packets::sum(l.row, fields, out));
     }
     if (l.row < table::BUILD_CIPHERED_RESPONSE + 1) | (table::SUM_USSD < l.row) {
         return rows::written(name_of(l.row), building::build(l, fields, out));

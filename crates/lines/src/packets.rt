@@ -1,5 +1,5 @@
 // Lines on packets and on USSD strings: parsing, showing, checksum octets.
-use answers::print;
+use answers::{Buffers, print};
 use skelmarix::own_octets;
 use values::fields::octet;
 use values::rows;
@@ -23,19 +23,23 @@ fn response(parsed: bool, ciphered: bool, packet: &[u8]) -> Row {
 }
 
 fn say_command(parsed: bool, packet: &[u8], text: &mut [u8], at: usize) -> usize {
-    let r = command(parsed, packet);
-    let check = skelmarix::command_check(packet);
-    let data = skelmarix::command_data(packet);
-    print(r, check, data, skelmarix::command_opaque(packet), text, at)
+    let buffers = Buffers {
+        first: skelmarix::command_check(packet),
+        second: skelmarix::command_data(packet),
+        third: skelmarix::command_opaque(packet),
+    };
+    print(command(parsed, packet), buffers, text, at)
 }
 
 fn say_response(row: usize, packet: &[u8], text: &mut [u8], at: usize) -> usize {
     let ciphered = (row == table::CIPHERED_RESPONSE) | (row == table::SHOW_CIPHERED);
     let r = response(row <= table::CIPHERED_RESPONSE, ciphered, packet);
-    let check = skelmarix::response_check(packet, ciphered);
-    let data = skelmarix::response_data(packet, ciphered);
-    let opaque = skelmarix::response_opaque(packet, ciphered);
-    print(r, check, data, opaque, text, at)
+    let buffers = Buffers {
+        first: skelmarix::response_check(packet, ciphered),
+        second: skelmarix::response_data(packet, ciphered),
+        third: skelmarix::response_opaque(packet, ciphered),
+    };
+    print(r, buffers, text, at)
 }
 
 // What a USSD string reads to, or its parts.
@@ -52,10 +56,12 @@ fn say_string(read: bool, fields: &[u8], text: &mut [u8], at: usize) -> usize {
     let dcs = octet(fields, 1);
     let whole = own_octets(fields, 2);
     let r = string(read, pfi, dcs, whole);
-    let check = skelmarix::ussd_check(pfi, dcs, whole);
-    let data = skelmarix::ussd_data(pfi, dcs, whole);
-    let opaque = skelmarix::ussd_opaque(pfi, dcs, whole);
-    print(r, check, data, opaque, text, at)
+    let buffers = Buffers {
+        first: skelmarix::ussd_check(pfi, dcs, whole),
+        second: skelmarix::ussd_data(pfi, dcs, whole),
+        third: skelmarix::ussd_opaque(pfi, dcs, whole),
+    };
+    print(r, buffers, text, at)
 }
 
 // Whether a line asks what a packet or a USSD string parses to, or for its parts.
@@ -76,7 +82,7 @@ pub fn say_packet(row: usize, packet: &[u8], text: &mut [u8], at: usize) -> usiz
 }
 
 // The octets that a checksum covers.
-pub(crate) fn sum(row: usize, packet: &[u8], out: &mut [u8]) -> types::Written {
+pub(crate) fn sum(row: usize, packet: &[u8], out: &mut [u8]) -> Result<usize, types::Refusal> {
     if row == table::SUM_COMMAND {
         return skelmarix::command_checksum(packet, out);
     }

@@ -1,6 +1,6 @@
 // Lines on arrivals, on splitting and on reports: what one message or page brings, one part of a packet written, and what goes out of a response.
 use skelmarix::own_octets;
-use types::WrittenPart;
+use types::{Refusal, WrittenPart};
 use values::fields::{kind_of, narrow, octet, pair_at, sender_of};
 use values::rows;
 use values::rows::Row;
@@ -33,14 +33,19 @@ pub(crate) fn asked(row: usize, fields: &[u8], made: Row) -> Row {
 
 // ---- parts
 // Serial number, message identifier and DCS are the first five octets.
-fn write_page(number: u32, fields: &[u8], out: &mut [u8]) -> WrittenPart {
+fn write_page(number: u32, fields: &[u8], out: &mut [u8]) -> Result<WrittenPart, Refusal> {
     let serial = types::SerialNumber(pair_at(fields, 0));
     let identifier = types::MessageIdentifier(pair_at(fields, 2));
     let packet = own_octets(fields, 5);
     skelmarix::write_page(serial, identifier, octet(fields, 4), number, packet, out)
 }
 
-fn write_message(response: bool, v: [u64; VALUES], packet: &[u8], out: &mut [u8]) -> WrittenPart {
+fn write_message(
+    response: bool,
+    v: [u64; VALUES],
+    packet: &[u8],
+    out: &mut [u8],
+) -> Result<WrittenPart, Refusal> {
     let width = narrow(v[0]);
     let reference = narrow(v[1]);
     let number = narrow(v[2]);

@@ -1,7 +1,8 @@
 #![tactic(auto)]
 // The card's engine and the plain one, behind the lines of the bench: what is kept of each, and the lines that each answers by calls of its own. What
 // they keep and answer is held to stored lines.
-use types::{Kind, LOG_OCTETS, Log, Making, Record, STATE_OCTETS};
+use types::{Kind, LOG_OCTETS, Log, Record, Refusal, STATE_OCTETS};
+use values::rows::{Row, Value};
 use values::{meaning, rows};
 use words::table;
 
@@ -19,40 +20,32 @@ pub struct Others {
 #[derive(Clone, Copy)]
 pub struct Changed {
     pub others: Others,
-    pub row: rows::Row,
+    pub row: Row,
 }
 
 // A fresh state and a fresh log, for commands, of five slots.
 pub fn start() -> Others {
     let mut state = [0u8; STATE_OCTETS];
-    skelmarix::fresh_state(&mut state, Kind::Command, types::SLOTS as u8);
+    // a state can have five slots, so this is not refused
+    let _ = skelmarix::fresh_state(&mut state, Kind::Command, types::SLOTS as u8);
     let made = skelmarix::fresh_log(Kind::Command, types::SLOTS as u8);
     let log = made.log;
-    Others {
-        state: state,
-        log: log,
-    }
+    Others { state, log }
 }
 
-fn with_state(o: Others, state: [u8; STATE_OCTETS], row: rows::Row) -> Changed {
+fn with_state(o: Others, state: [u8; STATE_OCTETS], row: Row) -> Changed {
     let log = o.log;
     Changed {
-        others: Others {
-            state: state,
-            log: log,
-        },
-        row: row,
+        others: Others { state, log },
+        row,
     }
 }
 
-fn with_log(o: Others, log: Log, row: rows::Row) -> Changed {
+fn with_log(o: Others, log: Log, row: Row) -> Changed {
     let state = o.state;
     Changed {
-        others: Others {
-            state: state,
-            log: log,
-        },
-        row: row,
+        others: Others { state, log },
+        row,
     }
 }
 
@@ -71,10 +64,7 @@ pub fn with_record(o: Others, r: Record) -> Others {
     let mut state = o.state;
     skelmarix::state_put(r, &mut state);
     let log = o.log;
-    Others {
-        state: state,
-        log: log,
-    }
+    Others { state, log }
 }
 
 // ---- taking
@@ -150,28 +140,33 @@ fn take(
 }
 
 // ---- a fresh record
-fn fresh_of(e: usize, kind: Kind, n: u8, o: Others) -> Changed {
+fn fresh_of(e: usize, kind: Kind, n: u8, o: Others) -> Result<Others, Refusal> {
     if e == CARD {
         let mut state = o.state;
-        let answer = skelmarix::fresh_state(&mut state, kind, n);
-        return with_state(o, state, rows::made(answer));
+        skelmarix::fresh_state(&mut state, kind, n)?;
+        return Ok(Others { state, ..o });
     }
     let made = skelmarix::fresh_log(kind, n);
-    let answer = made.answer;
-    match answer {
-        Making::Fresh => with_log(o, made.log, rows::made(answer)),
-        Making::Refused(why) => with_log(o, o.log, rows::made(Making::Refused(why))),
-    }
+    made.answer?;
+    Ok(Others { log: made.log, ..o })
 }
 
 // The same with cells, or log, and output all 00; what the library refuses to make changes nothing.
 fn fresh(e: usize, kind: Kind, n: u8, o: Others, cells: &mut [u8], output: &mut [u8]) -> Changed {
-    let c = fresh_of(e, kind, n, o);
-    if c.row.name == rows::FRESH {
-        lines::fill(cells, 0);
-        lines::fill(output, 0);
+    match fresh_of(e, kind, n, o) {
+        Ok(others) => {
+            lines::fill(cells, 0);
+            lines::fill(output, 0);
+            Changed {
+                others,
+                row: rows::made(Ok(())),
+            }
+        }
+        Err(why) => Changed {
+            others: o,
+            row: rows::made(Err(why)),
+        },
     }
-    c
 }
 
 // ---- the beat
@@ -191,12 +186,7 @@ fn beaten(e: usize, limit: u8, lent: [usize; 4], o: Others, entries: &mut [u8]) 
 // Whether the state is one that the library could have made.
 fn formed(o: Others) -> Changed {
     let state = o.state;
-    let row = if skelmarix::state_formed(&state) {
-        rows::plain(rows::YES)
-    } else {
-        rows::plain(rows::NO)
-    };
-    with_state(o, state, row)
+    with_state(o, state, rows::whether(skelmarix::state_formed(&state)))
 }
 
 // The first octets of entry n of the log, or how many entries there are, as the line says.
@@ -207,11 +197,11 @@ fn noted(row: usize, n: usize, octets: &[u8], o: Others, entries: &mut [u8]) -> 
             entries,
             n % types::LOG_ENTRIES * types::ENTRY_OCTETS,
         );
-        return with_log(o, o.log, rows::one(rows::ENTRY, 6, n as u64));
+        return with_log(o, o.log, Row::new("entry", &[Value::Number(n as u64)]));
     }
     let mut log = o.log;
     log.count = (n % 256) as u8;
-    with_log(o, log, rows::one(rows::ENTRIES, 6, n as u64))
+    with_log(o, log, Row::new("entries", &[Value::Number(n as u64)]))
 }
 
 // ---- by the row

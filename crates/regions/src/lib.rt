@@ -6,6 +6,7 @@ ghost use Rattle.words.specs.Line.{gathered};
 ghost use Rattle.bench.specs.Lines.{Untouched};
 ghost use Rattle.regions.specs.Regions.{region_end, with_bench, FirstMade};
 
+use answers::Buffers;
 use bench::Heard;
 use changes::Bench;
 use others::{CARD, Others};
@@ -42,8 +43,8 @@ pub fn outcome(c: Chosen, understood: bool, end: usize) -> Told
 {
     Told {
         chosen: c,
-        understood: understood,
-        end: end,
+        understood,
+        end,
     }
 }
 
@@ -140,7 +141,7 @@ fn call(
     let lent = c.bench.lent;
     let a = others::change(e, l.row, l.count, n, octets, lent, c.others, cells, output);
     let sent = skelmarix::first_octets(output, types::PACKET_OCTETS);
-    let end = answers::print(a.row, sent, sent, sent, text, at);
+    let end = answers::print(a.row, Buffers::all(sent), text, at);
     let after = a.others;
     let mut d = c;
     d.others = after;

@@ -101,7 +101,7 @@ fn heard(t: Tally, understood: bool, end: usize, text: &mut [u8]) -> Tally {
 // Passes a line that is too long. A comment has no answer, however long it is.
 fn pass(t: Tally, line: &[u8], text: &mut [u8]) -> Tally {
     let mut u = t;
-    u.input.long = false;
+    u.input.long = None;
     if input::is_passed(t.input, line) {
         return u;
     }

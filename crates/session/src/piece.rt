@@ -42,11 +42,7 @@ pub fn next_line(piece: &[u8], from: usize, count: usize) -> Span
         if count <= piece.len() {
             let end = line_feed(piece, from, count);
             let last = without_return(piece, from, end);
-            return Span {
-                from: from,
-                last: last,
-                end: end,
-            };
+            return Span { from, last, end };
         }
     }
     Span {
