@@ -1,5 +1,6 @@
 // What an example prints of its last answer, and what the library is held to besides.
 use skelmarix::{Answer, Record, Taken, first_octets};
+use types::Refusal;
 
 // Printed as a word: no refusal has this number.
 pub const DIFFERS: u8 = 255;
@@ -32,20 +33,17 @@ pub enum Expected {
 
 // Part 2 alone is kept.
 pub fn second(total: u8, length: u8) -> Expected {
-    Expected::Second {
-        total: total,
-        length: length,
-    }
+    Expected::Second { total, length }
 }
 
 // A part is kept in this slot, and the slots hold these series.
 pub fn among(slot: usize, displaced: bool, first: u16, second: u16, third: u16) -> Expected {
     Expected::Among {
-        slot: slot,
-        displaced: displaced,
-        first: first,
-        second: second,
-        third: third,
+        slot,
+        displaced,
+        first,
+        second,
+        third,
     }
 }
 
@@ -93,24 +91,24 @@ fn holds_second(state: Record, total: u8, length: u8) -> bool {
 }
 
 // Whether a part was kept in this slot, displacing a series or not.
-fn is_kept(answer: Answer, at: usize, displacing: bool) -> bool {
+fn is_kept(answer: Result<Answer, Refusal>, at: usize, displacing: bool) -> bool {
     match answer {
-        Answer::Kept { slot, displaced } => (slot == at) & (displaced == displacing),
+        Ok(Answer::Kept { slot, displaced }) => (slot == at) & (displaced == displacing),
         _ => false,
     }
 }
 
 // The number of an example after which nothing is held.
-fn ended(answer: Answer, free: bool, m: bool) -> u8 {
+fn ended(answer: Result<Answer, Refusal>, free: bool, m: bool) -> u8 {
     match answer {
-        Answer::Refused(refusal) => held_to(free, refusal.number()),
-        Answer::Packet { length } => held_to(free & m & (length == 16), 0),
+        Err(refusal) => held_to(free, refusal.number()),
+        Ok(Answer::Packet { length }) => held_to(free & m & (length == 16), 0),
         _ => DIFFERS,
     }
 }
 
 // The number of an example.
-fn number(answer: Answer, state: Record, m: bool, expected: Expected) -> u8 {
+fn number(answer: Result<Answer, Refusal>, state: Record, m: bool, expected: Expected) -> u8 {
     match expected {
         Expected::Ended => ended(answer, holds(state, NONE, NONE, NONE), m),
         Expected::Second { total, length } => held_to(

@@ -1,9 +1,10 @@
 // Examples that split packets: k, l and L.
 use crate::answers;
 use skelmarix::{Kind, USER_DATA_OCTETS, WrittenPart, first_octets, pair_of, write_message};
+use types::Refusal;
 
 // Writes one part of a command packet of CPL + 2 octets.
-fn write(width: u32, number: u32, cpl: u16) -> WrittenPart {
+fn write(width: u32, number: u32, cpl: u16) -> Result<WrittenPart, Refusal> {
     let lengths = pair_of(cpl);
     let mut packet = [0x0D; 2143];
     packet[0] = lengths.0;
@@ -20,10 +21,10 @@ fn write(width: u32, number: u32, cpl: u16) -> WrittenPart {
 }
 
 // The refusal number of an answer; 0 if a part was written, one of so many, and of this length.
-fn number(written: WrittenPart, parts: usize, size: usize) -> u8 {
+fn number(written: Result<WrittenPart, Refusal>, parts: usize, size: usize) -> u8 {
     match written {
-        WrittenPart::Refused(refusal) => refusal.number(),
-        WrittenPart::Part { total, length } => {
+        Err(refusal) => refusal.number(),
+        Ok(WrittenPart { total, length }) => {
             answers::held_to((total == parts) & (length == size), 0)
         }
     }

@@ -35,12 +35,12 @@ fn each(
     cells: &mut [u8],
     out: &mut [u8],
 ) -> Taken {
+    let last = usize::from(last);
+    let size = if paged { PAGE_OCTETS } else { 7 };
     let mut taken = start;
-    let mut at = 0;
-    while at <= last as usize {
-        let octets = call(paged, octets, at, last as usize);
+    for at in (0..=last).step_by(size) {
+        let octets = call(paged, octets, at, last);
         taken = take(paged, taken.record, octets, cells, out);
-        at = if paged { at + PAGE_OCTETS } else { at + 7 };
     }
     taken
 }
@@ -48,7 +48,7 @@ fn each(
 // Before the first call.
 fn start(state: Record) -> Taken {
     Taken {
-        answer: Answer::Packet { length: 0 },
+        answer: Ok(Answer::Packet { length: 0 }),
         record: state,
     }
 }

@@ -4,46 +4,48 @@
 // prints what happens.
 use skelmarix::{
     Answer, CELLS_OCTETS, Clear, Closing, Cntr, Kind, Outgoing, Outstanding, PACKET_OCTETS,
-    PRESENT_EDITION, ParsedCommand, Spi, Taken, Tar, USER_DATA_OCTETS, command_sent, first_octets,
-    no_commands, packet_in, part_in, written_in,
+    PRESENT_EDITION, Spi, Taken, Tar, USER_DATA_OCTETS, command_sent, first_octets, no_commands,
+    packet_in, part_in, written_in,
 };
 use std::io;
+use types::Refusal;
 
 // ---- printing
 fn say(rt: HostRuntime, words: &str, number: usize) -> io::Result<()> {
     println!(rt; "{words}{number}")
 }
 
-fn tell(rt: HostRuntime, part: u32, answer: Answer) -> io::Result<()> {
+fn tell(rt: HostRuntime, part: u32, answer: Result<Answer, Refusal>) -> io::Result<()> {
     say(rt, "  part ", part as usize)?;
     match answer {
-        Answer::Kept { slot, displaced } => say(rt, "    is kept, in slot ", slot),
-        Answer::HeldAlready { slot } => say(rt, "    is held already, in slot ", slot),
-        Answer::Packet { length } => say(rt, "    completes the packet, octets: ", length),
-        Answer::Refused(why) => say(rt, "    is refused, number ", why.number() as usize),
+        Ok(Answer::Kept { slot, displaced }) => say(rt, "    is kept, in slot ", slot),
+        Ok(Answer::HeldAlready { slot }) => say(rt, "    is held already, in slot ", slot),
+        Ok(Answer::Packet { length }) => say(rt, "    completes the packet, octets: ", length),
+        Err(why) => say(rt, "    is refused, number ", why.number() as usize),
     }
 }
 
 // ---- the way over the air
 // Splits a packet into parts and takes them, the second first. The packet is at the start of `out` if the answer says so.
-fn carry(rt: HostRuntime, kind: Kind, packet: &[u8], out: &mut [u8]) -> io::Result<Answer> {
-    let order = [2, 3, 1];
+fn carry(
+    rt: HostRuntime,
+    kind: Kind,
+    packet: &[u8],
+    out: &mut [u8],
+) -> io::Result<Result<Answer, Refusal>> {
     let mut cells = [0; CELLS_OCTETS];
     let mut ud = [0; USER_DATA_OCTETS];
     let mut taken = Taken {
-        answer: Answer::Packet { length: 0 },
+        answer: Ok(Answer::Packet { length: 0 }),
         record: skelmarix::fresh_record(kind),
     };
-    let mut i = 0;
-    while i < 3 {
+    for number in [2, 3, 1] {
         // 8-bit reference 42: one number for all parts of a packet
-        let number = order[i];
         let part = skelmarix::write_message(kind, 8, 42, number, packet, &mut ud);
         // 7 is the number of the sender
         taken = skelmarix::take_message(taken.record, 7, part_in(part, &ud), &mut cells, out);
         let answer = taken.answer;
         tell(rt, number, answer)?;
-        i = i + 1;
     }
     Ok(taken.answer)
 }
@@ -52,11 +54,11 @@ fn carry(rt: HostRuntime, kind: Kind, packet: &[u8], out: &mut [u8]) -> io::Resu
 // Reads the command and builds the response to it in `out`; answers how many octets it has.
 fn respond(rt: HostRuntime, command: &[u8], out: &mut [u8]) -> io::Result<usize> {
     match skelmarix::parse_command(command) {
-        ParsedCommand::Refused(why) => {
+        Err(why) => {
             say(rt, "The command is refused, number ", why.number() as usize)?;
             Ok(0)
         }
-        ParsedCommand::Fields(fields) => {
+        Ok(fields) => {
             say(
                 rt,
                 "The card reads the command; octets of data: ",
@@ -80,7 +82,7 @@ fn respond(rt: HostRuntime, command: &[u8], out: &mut [u8]) -> io::Result<usize>
 }
 
 // Says in a delivery report of 140 octets what becomes of the response, and takes the report as the server does.
-fn report(spi: Spi, response: &[u8], out: &mut [u8]) -> Answer {
+fn report(spi: Spi, response: &[u8], out: &mut [u8]) -> Result<Answer, Refusal> {
     let mut cells = [0; CELLS_OCTETS];
     let mut ud = [0; USER_DATA_OCTETS];
     let going = skelmarix::write_report(spi, USER_DATA_OCTETS, PRESENT_EDITION, response, &mut ud);
@@ -91,13 +93,10 @@ fn report(spi: Spi, response: &[u8], out: &mut [u8]) -> Answer {
 }
 
 // How many octets of a report there are.
-fn in_report(going: Outgoing) -> usize {
+fn in_report(going: Result<Outgoing, Refusal>) -> usize {
     match going {
-        Outgoing::Nothing => 0,
-        Outgoing::Report { length } => length,
-        Outgoing::Announcement { length } => length,
-        Outgoing::Submit => 0,
-        Outgoing::Refused(why) => 0,
+        Ok(Outgoing::Report { length } | Outgoing::Announcement { length }) => length,
+        Ok(Outgoing::Nothing | Outgoing::Submit) | Err(_) => 0,
     }
 }
 
@@ -108,17 +107,17 @@ fn hear(rt: HostRuntime, outstanding: Outstanding, response: &[u8]) -> io::Resul
     let table = after.outstanding;
     let answer = after.answer;
     match answer {
-        Closing::Closed => say(
+        Ok(Closing::Closed) => say(
             rt,
             "The command is closed; still waiting: ",
             table.count as usize,
         )?,
-        Closing::Waiting => say(
+        Ok(Closing::Waiting) => say(
             rt,
             "Another response follows; still waiting: ",
             table.count as usize,
         )?,
-        Closing::Refused(why) => say(
+        Err(why) => say(
             rt,
             "The response is refused, number ",
             why.number() as usize,

@@ -2,7 +2,7 @@
 // ./run salvage copies what is sound of the capture on standard input to the file salvage.out, and prints a line for each longest run of octets
 // that it skipped: the first position, from 0, a space, and the count. A capture of more than 65,536 octets is refused: 24 is printed, and
 // salvage.out is empty. It is empty as well if reading or writing the octets fails; standard error says what failed.
-use skelmarix::{CAPTURE_OCTETS, Refusal, SkippedRun, Written};
+use skelmarix::{CAPTURE_OCTETS, Refusal, SkippedRun};
 use std::fs::File;
 use std::io::{Read, Write};
 use std::{fs, io};
@@ -19,38 +19,17 @@ fn fail(rt: HostRuntime, what: &str, e: io::Error) {
     let _ = eprintln!(rt; "{what}: {e}");
 }
 
-// How many octets were read, and whether reading went well.
-#[derive(Clone, Copy)]
-struct Input {
-    count: usize,
-    well: bool,
-}
-
-// Reads to the end of standard input, or until the buffer is full.
-fn read_all(rt: HostRuntime, file: &mut [u8]) -> Input {
+// Reads to the end of standard input, or until the buffer is full; how many octets were read.
+fn read_all(rt: HostRuntime, file: &mut [u8]) -> io::Result<usize> {
     let mut count = 0;
+    // how often it reads is not known before
     while count < file.len() {
-        match rt.stdin().read(&mut file[count..]) {
-            Ok(0) => {
-                return Input {
-                    count: count,
-                    well: true,
-                };
-            }
-            Ok(n) => count += n,
-            Err(e) => {
-                fail(rt, "salvage: read", e);
-                return Input {
-                    count: 0,
-                    well: false,
-                };
-            }
+        match rt.stdin().read(&mut file[count..])? {
+            0 => return Ok(count),
+            n => count += n,
         }
     }
-    Input {
-        count: count,
-        well: true,
-    }
+    Ok(count)
 }
 
 // ---- the file
@@ -156,8 +135,8 @@ fn salvage(rt: HostRuntime, file: &[u8], space: &mut [u8], text: &mut [u8]) {
     }
     let answer = skelmarix::salvage(file, &mut space[0..n]);
     match answer {
-        Written::Refused(why) => refuse(rt, why),
-        Written::Octets(copied) => {
+        Err(why) => refuse(rt, why),
+        Ok(copied) => {
             if kept(rt, skelmarix::first_octets(space, copied)) {
                 tell(rt, file, text);
             }
@@ -169,11 +148,21 @@ fn main(rt: HostRuntime) {
     let mut file = [0u8; ROOM];
     let mut space = [0u8; ROOM];
     let mut text = [0u8; 65536];
-    let input = read_all(rt, &mut file);
-    if emptied(rt) & input.well {
+    let read = match read_all(rt, &mut file) {
+        Ok(count) => Some(count),
+        Err(e) => {
+            fail(rt, "salvage: read", e);
+            None
+        }
+    };
+    // the file is emptied also if reading failed
+    if !emptied(rt) {
+        return;
+    }
+    if let Some(count) = read {
         salvage(
             rt,
-            skelmarix::first_octets(&file, input.count),
+            skelmarix::first_octets(&file, count),
             &mut space,
             &mut text,
         );
