@@ -1,6 +1,6 @@
 // What is behind the two lengths of a packet, whatever carries it and however its lengths are coded: its octets, and the header length. Packets
 // of 01 and USSD strings are read by these functions; none of them knows where the octets began.
-ghost use Rattle.std.specs.Prelude.{◌≡◌, [], ◌∷◌, ◌+◌, ◌-◌, ◌≤◌, length, get_or, slice_index, take, drop};
+ghost use Rattle.std.specs.Prelude.{◌≡◌, [], ◌∷◌, ◌+◌, ◌-◌, ◌≤◌, ◌<◌, length, get_or, slice_index, take, drop};
 ghost use Rattle.types.specs.Refusals.{gives};
 ghost use Rattle.packet.specs.Packets.{before, least, within, ciphered_behind, fields_behind, measured, against_check, readable_behind, parsing_behind};
 ghost use Rattle.packet.specs.Judging.{told_judged};
@@ -60,28 +60,28 @@ pub fn against_check(kind: Kind, ciphered: bool, header: usize, behind: &[u8]) -
 }
 
 // ---- fields
-// TAR, from a place on.
+// TAR, from a place on; zeros if its octets are not all there.
 pub fn tar_at(behind: &[u8], at: usize) -> Tar
-    requires { at + 3 ≤ length behind.now }
-    ensures octets { tar_octets result ≡ take 3 (drop at behind.now) }
-    ensures value { result ≡ (slice_index behind.now at, slice_index behind.now (at + 1), slice_index behind.now (at + 2)) }
+    ensures octets { at + 3 ≤ length behind.now → tar_octets result ≡ take 3 (drop at behind.now) }
+    ensures value { at + 3 ≤ length behind.now → result ≡ (slice_index behind.now at, slice_index behind.now (at + 1), slice_index behind.now (at + 2)) }
+    ensures none { length behind.now < at + 3 → result ≡ (0, 0, 0) }
 {
-    Tar(behind[at], behind[at + 1], behind[at + 2])
+    match past(behind, at) {
+        [a, b, c, ..] => Tar(*a, *b, *c),
+        _ => Tar(0, 0, 0),
+    }
 }
 
-// CNTR, from a place on.
+// CNTR, from a place on; zeros if its octets are not all there.
 pub fn cntr_at(behind: &[u8], at: usize) -> Cntr
-    requires { at + 5 ≤ length behind.now }
-    ensures octets { counter_octets result [] ≡ take 5 (drop at behind.now) }
-    ensures value { result ≡ (slice_index behind.now at, slice_index behind.now (at + 1), slice_index behind.now (at + 2), slice_index behind.now (at + 3), slice_index behind.now (at + 4)) }
+    ensures octets { at + 5 ≤ length behind.now → counter_octets result [] ≡ take 5 (drop at behind.now) }
+    ensures value { at + 5 ≤ length behind.now → result ≡ (slice_index behind.now at, slice_index behind.now (at + 1), slice_index behind.now (at + 2), slice_index behind.now (at + 3), slice_index behind.now (at + 4)) }
+    ensures none { length behind.now < at + 5 → result ≡ (0, 0, 0, 0, 0) }
 {
-    Cntr(
-        behind[at],
-        behind[at + 1],
-        behind[at + 2],
-        behind[at + 3],
-        behind[at + 4],
-    )
+    match past(behind, at) {
+        [a, b, c, d, e, ..] => Cntr(*a, *b, *c, *d, *e),
+        _ => Cntr(0, 0, 0, 0, 0),
+    }
 }
 
 // What is before the counter of a command.
