@@ -3,7 +3,7 @@
 // for any buffer.
 pub mod record;
 
-ghost use Rattle.std.specs.Prelude.{◌<◌};
+ghost use Rattle.std.specs.Prelude.{◌≡◌, ◌<◌};
 
 use types::{Cntr, Spi, Tar};
 use values::rows::{Buffer, Row, Value};
@@ -33,16 +33,19 @@ fn digit(v: u8) -> u8
     if v < 10 { b'0' + v } else { b'A' + (v - 10) }
 }
 
-// Octets as digits, two each.
+// Octets as digits, two each. They are put by pairs of places, so that many are put at once.
 fn pairs(octets: &[u8], text: &mut [u8], at: usize) -> usize {
-    if text.len().saturating_sub(at) / 2 < octets.len() {
+    let Some(rest) = text.get_mut(at..) else {
+        return at;
+    };
+    let (places, _) = rest.as_chunks_mut::<2>();
+    if places.len() < octets.len() {
         return at;
     }
-    let mut to = at;
-    for x in octets {
-        to = say(&[digit(*x / 16), digit(*x % 16)], text, to);
+    for (place, x) in places.iter_mut().zip(octets) {
+        *place = [digit(*x / 16), digit(*x % 16)];
     }
-    to
+    at + 2 * octets.len()
 }
 
 // Octets, `-` for none.
@@ -57,12 +60,14 @@ fn field(octets: &[u8], text: &mut [u8], at: usize) -> usize {
 pub fn number(n: u64, text: &mut [u8], at: usize) -> usize {
     let mut figures = [b'0'; 20];
     let mut rest = n;
-    for figure in figures.iter_mut().rev() {
-        *figure = b'0' + (rest % 10) as u8;
+    for i in (0..20).rev() {
+        figures[i] = b'0' + (rest % 10) as u8;
         rest /= 10;
+        if rest == 0 {
+            return say(&figures[i..], text, at);
+        }
     }
-    let first = figures.iter().position(|x| *x != b'0').unwrap_or(19);
-    say(&figures[first..], text, at)
+    say(&figures, text, at)
 }
 
 // A blank and a number.
@@ -88,7 +93,9 @@ pub struct Buffers<'a> {
 
 impl<'a> Buffers<'a> {
     // One octet string for all three.
-    pub fn all(octets: &'a [u8]) -> Buffers<'a> {
+    pub fn all(octets: &'a [u8]) -> Buffers<'a>
+        ensures { (result.first.now ≡ octets.now) × (result.second.now ≡ octets.now) × (result.third.now ≡ octets.now) }
+    {
         Buffers {
             first: octets,
             second: octets,

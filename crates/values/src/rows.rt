@@ -1,4 +1,8 @@
-// What the library answered, as rows: a name, and the values behind it. `answers` prints a row. Nothing is promised but that every call is safe.
+// What the library answered, as rows: a name, and the values behind it. `answers` prints a row. Of most rows nothing is promised but that every call is safe.
+ghost use Rattle.std.specs.Prelude.{◌≡◌, ◌∷◌, [], cond, replicate, slice_get};
+ghost use Rattle.std.specs.declared.option.Option.TheVariants.{Some, None};
+ghost use Rattle.values.specs.declared.rows.Value.TheVariants.{Sender, Number, Pair};
+
 use types::{
     Answer, Arrival, Clear, Closing, Cntr, Command, CommandBody, Kind, Opaque, Outgoing, Refusal,
     Response, ResponseBody, Spi, Tar, WrittenPart,
@@ -45,13 +49,25 @@ pub struct Row {
 }
 
 impl Row {
-    // A name and what is printed behind it: up to eight values.
-    pub fn new(name: &'static str, values: &[Value]) -> Row {
-        let mut all = [None; 8];
-        for (place, value) in all.iter_mut().zip(values) {
-            *place = Some(*value);
+    // A name and what is printed behind it: up to eight values. Where it is compiled into its callers, how many there are is known, and no test is left.
+    #[inline(always)]
+    pub fn new(name: &'static str, values: &[Value]) -> Row
+        ensures named { result.name.now ≡ name.now }
+        ensures placed { result.values ≡ slice_get values.now 0 ∷ slice_get values.now 1 ∷ slice_get values.now 2 ∷ slice_get values.now 3 ∷ slice_get values.now 4 ∷ slice_get values.now 5 ∷ slice_get values.now 6 ∷ slice_get values.now 7 ∷ [] }
+    {
+        Row {
+            name,
+            values: [
+                values.get(0).copied(),
+                values.get(1).copied(),
+                values.get(2).copied(),
+                values.get(3).copied(),
+                values.get(4).copied(),
+                values.get(5).copied(),
+                values.get(6).copied(),
+                values.get(7).copied(),
+            ],
         }
-        Row { name, values: all }
     }
 }
 
@@ -61,7 +77,10 @@ fn refusal(why: Refusal) -> Row {
 }
 
 // `yes` or `no`.
-pub fn whether(so: bool) -> Row {
+pub fn whether(so: bool) -> Row
+    ensures named { result.name.now ≡ cond so (121 ∷ 101 ∷ 115 ∷ []) (110 ∷ 111 ∷ []) }
+    ensures placed { result.values ≡ replicate 8 None }
+{
     Row::new(if so { "yes" } else { "no" }, &[])
 }
 
@@ -246,7 +265,9 @@ pub fn command_sent(c: types::SentCommand) -> Row {
 
 // ---- series
 // `SENDER WIDTH REFERENCE SERIAL IDENTIFIER`.
-fn key(k: types::Key) -> [Value; 5] {
+fn key(k: types::Key) -> [Value; 5]
+    ensures { result ≡ Sender k.sender ∷ Number k.width ∷ Number k.reference ∷ Pair k.serial.0 ∷ Pair k.identifier.0 ∷ [] }
+{
     [
         Value::Sender(k.sender),
         Value::Number(k.width as u64),
@@ -257,7 +278,10 @@ fn key(k: types::Key) -> [Value; 5] {
 }
 
 // ` RANK BEATS SENDER WIDTH REFERENCE SERIAL IDENTIFIER TOTAL`.
-pub fn slot(x: types::Slot) -> Row {
+pub fn slot(x: types::Slot) -> Row
+    ensures named { result.name.now ≡ [] }
+    ensures placed { result.values ≡ Some (Number x.rank) ∷ Some (Number x.beats) ∷ Some (Sender x.key.sender) ∷ Some (Number x.key.width) ∷ Some (Number x.key.reference) ∷ Some (Pair x.key.serial.0) ∷ Some (Pair x.key.identifier.0) ∷ Some (Number x.total) ∷ [] }
+{
     let [sender, width, reference, serial, identifier] = key(x.key);
     Row::new(
         "",
