@@ -1,8 +1,8 @@
 -- What the proofs on a record as a whole cite: the loop over its slots and over the pairs of each, its ranks, and that slots past its own, which are
 -- free, change neither.
-use Prim.Native.Nat.{ℕ, zero, suc, ◌+◌, ◌≤◌, ◌<◌}
+use Prim.Native.Nat.{ℕ, zero, suc, ◌+◌, ◌-◌, ◌*◌, ◌≤◌, ◌<◌}
 use mathlib.Core.Path.{◌≡◌, refl, sym, ap, ◌∙◌}
-use mathlib.Core.Bool.{Bool, true, false, not, cond, ◌&&◌, ◌||◌, and-true, and-false}
+use mathlib.Core.Bool.{Bool, true, false, not, cond, ◌&&◌, ◌||◌, and-true}
 use mathlib.Core.List.{List}
 use native.Mathlib.Omega.{arith}
 use lib.ListN.{length}
@@ -63,7 +63,7 @@ module _ (n : ℕ) (k : Kind) (xs : List Slot) where
   unfolding all_below
   none_begun i = sym (and-true (all_below i (apart_before xs)))
 
-  hold_slot : (i j m r : ℕ) (ok b : Bool) → ok ≡ held_before i j → j ≤ i → (ltb j i && not (eqb r 0)) ≡ false → r ≡ (slot_at xs i).rank → m ≡ n
+  pub hold_slot : (i j m r : ℕ) (ok b : Bool) → ok ≡ held_before i j → j ≤ i → (ltb j i && not (eqb r 0)) ≡ false → r ≡ (slot_at xs i).rank → m ≡ n
       → b ≡ slot_formed k (slot_at xs i) → ok && (b && (ltb i m || eqb r 0)) ≡ held_before (i + 1) 0
   hold_slot i j m r ok b e l none q o f =
       let g : b && (ltb i m || eqb r 0) ≡ slot_holds n k xs i = rw (o, f, q) in
@@ -82,21 +82,27 @@ module _ (n : ℕ) (k : Kind) (xs : List Slot) where
       turn true false c false = refl
       turn false b c d = refl
 
-  -- a free slot, of which no pair is looked at, and a used one, of which all are
-  module _ (i j p m r : ℕ) (ok b : Bool) (e : ok ≡ held_before i j) (within : j ≤ p) (ended : p ≤ j) where
-    pub hold_free : r ≡ 0 → p ≡ 0 → r ≡ (slot_at xs i).rank → m ≡ n → b ≡ slot_formed k (slot_at xs i)
-        → ok && (b && (ltb i m || eqb r 0)) ≡ held_before (i + 1) 0
-    hold_free z none q o f = hold_slot i j m r ok b e (omega arith) (rw (eq-eqb r 0 z, and-false)) q o f
-
-    pub hold_used : p ≡ i → r ≡ (slot_at xs i).rank → m ≡ n → b ≡ slot_formed k (slot_at xs i)
-        → ok && (b && (ltb i m || eqb r 0)) ≡ held_before (i + 1) 0
-    hold_used all q o f = hold_slot i j m r ok b e (omega arith) (rw (le-ltb j i (omega arith))) q o f
-
-  pub hold_ends : (i : ℕ) (ok : Bool) → ok ≡ held_before i 0 → i ≤ most_slots → most_slots ≤ i → ok ≡ (slots_hold n k xs && slots_apart most_slots xs)
+  pub hold_ends : (i j : ℕ) (ok : Bool) → ok ≡ held_before i j → i ≤ most_slots → most_slots ≤ i → j ≤ (most_slots - i) * 5
+      → ok ≡ (slots_hold n k xs && slots_apart most_slots xs)
   unfolding all_below
-  hold_ends i ok e l h =
+  hold_ends i j ok e l h none =
       let s : i ≡ most_slots = omega arith in
-      e ∙ ap (λ (q : ℕ). held_before q 0) s ∙ ap (λ (t : Bool). slots_hold n k xs && t) (and-true (slots_apart most_slots xs))
+      let z : j ≡ 0 = omega arith in
+      e ∙ ap (λ (q : ℕ). held_before i q) z ∙ ap (λ (q : ℕ). held_before q 0) s ∙ ap (λ (t : Bool). slots_hold n k xs && t) (and-true (slots_apart most_slots xs))
+
+-- a pair is left to look at
+module _ (i j r : ℕ) (t : (ltb j i && not (eqb r 0)) ≡ true) where
+  below : j < i
+  below = ltb-true j i (both (ltb j i) (not (eqb r 0)) t).0
+
+  pub pair_within : j + 1 ≤ i
+  pair_within = omega (arith, below)
+
+  pub pair_begun : i < most_slots → j + 1 ≤ (most_slots - i) * 5
+  pair_begun l = omega (arith, below)
+
+  pub pair_less : (most_slots - i) * 6 + (i - (j + 1)) < (most_slots - i) * 6 + (i - j)
+  pair_less = omega (arith, below)
 
 -- ---- ranks
 module _ (a b c d e : ℕ) where
@@ -183,4 +189,4 @@ whole_told r a b t l p q =
     own : slots_hold r.count r.kind r.slots && slots_apart r.count r.slots && ranked r.count r.slots ≡ record_formed r.count r
     own = record_formed_told r _ _ _ t l refl refl refl
 
-pub ruleset record_steps = (formed_steps, hold_starts, hold_pair, hold_free, hold_used, hold_ends, five_used, five_more, five_gapless, five_ranked, whole_told)
+pub ruleset record_steps = (formed_steps, hold_starts, hold_pair, hold_slot, hold_ends, pair_within, pair_begun, pair_less, five_used, five_more, five_gapless, five_ranked, whole_told)

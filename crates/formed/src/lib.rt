@@ -186,21 +186,28 @@ fn pair_apart(x: Slot, y: Slot) -> bool
 }
 
 // Whether each slot is well formed, those past the record's own are free, no two used slots have one key, and none has a higher count of beats than a
-// less recent one. The loop over the pairs of each used slot stands here and has no function of its own: each function that holds the record copies
-// it. The array has as many slots as its type says.
+// less recent one. One loop over the slots and over the pairs of each used one holds the record: each function that holds it copies it. The array has
+// as many slots as its type says.
 fn slots_hold(state: Record) -> bool
     ensures { (result ≡ (slots_hold state.count state.kind state.slots && slots_apart most_slots state.slots)) × (length state.slots ≡ most_slots) }
 {
     let kind = state.kind;
     let n = state.count as usize;
     let mut ok = true;
-    for i in 0..SLOTS {
+    let mut i = 0;
+    let mut j = 0;
+    while i < SLOTS {
         let x = state.slots[i];
-        let pairs = if x.rank == 0 { 0 } else { i };
-        for j in 0..pairs {
-            ok &= pair_apart(x, state.slots[j]);
+        let paired = (j < i) & (x.rank != 0);
+        if paired {
+            let y = state.slots[j];
+            ok &= pair_apart(x, y);
+            j += 1;
+        } else {
+            ok &= slot_formed(kind, x) & ((i < n) | (x.rank == 0));
+            i += 1;
+            j = 0;
         }
-        ok &= slot_formed(kind, x) & ((i < n) | (x.rank == 0));
     }
     ok
 }
